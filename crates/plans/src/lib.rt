@@ -1,0 +1,2 @@
+pub mod row_list;
+pub mod rows;
