@@ -4,7 +4,7 @@ use mathlib.Core.List.{List}
 use Prim.Native.Nat.{ℕ, _-_, _≤_, _<_, min}
 use native.Mathlib.Omega.{arith}
 use lib.ListN.{length, getD, take, length-take}
-use Rattle.std.proofs.shelf.Lists.{getD-take}
+use Rattle.std.proofs.shelf.Lists.{getD-take, getD-read}
 
 module _ {R : Type 0} (n : ℕ) (xs : List R) (k : ℕ) where
   pub one-of : k ≤ n → k ≤ length xs → k ≤ length (take n xs)
@@ -18,3 +18,6 @@ module _ {R : Type 0} (n : ℕ) (xs : List R) (k : ℕ) where
 
   pub row-taken : (x : R) → 1 ≤ k → k ≤ n → x ≡ getD xs (k - 1) x → x ≡ getD (take n xs) (k - 1) x
   row-taken x a b e = e ∙ sym (getD-take n xs (k - 1) x (omega arith))
+
+  pub row-is : (x d : R) → 1 ≤ k → k ≤ length (take n xs) → x ≡ getD (take n xs) (k - 1) x → x ≡ getD xs (k - 1) d
+  row-is x d a b e = getD-read (take n xs) (k - 1) x (omega arith) e d ∙ getD-take n xs (k - 1) d (omega (arith, length-take n xs))

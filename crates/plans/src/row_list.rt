@@ -1,9 +1,11 @@
 ghost use mathlib.Core.Path.{_≡_};
-ghost use lib.ListN.{length};
+ghost use Prim.Native.Nat.{_+_, _-_, _^_, _<_, _≤_};
+ghost use lib.ListN.{length, set};
 ghost use denote.Ref.{now, name};
 ghost use Rattle.std.specs.Orderings.{Decides};
 ghost use Rattle.plans.specs.Items.{Item, Names};
-ghost use Rattle.plans.specs.RowLists.{Kept, kept, taken, emptied, PushSays, SetSays};
+ghost use Rattle.plans.specs.RowLists.{Kept, kept, taken, emptied, PushSays, SetSays, AddSays, move-row, raised, changed};
+use super::rows::Move;
 use bounds::refusal::Refusal;
 
 // Rows of any sort in a lent slice, taken from its start. The rows behind those taken hold what they held.
@@ -82,5 +84,46 @@ impl<'a, R: Copy> RowList<'a, R> {
         ensures same { λ _. ⌜ name (now (self .exit) .rows) ≡ name (now (self .entry) .rows) ⌝ }
     {
         self.used = 0;
+    }
+    // The rows taken.
+    pub fn rows(&self) -> &[R]
+        ensures { λ r. ⌜ now r ≡ taken (kept (now (self .entry))) ⌝ }
+    {
+        let rows: &[R] = self.rows;
+        if self.used < rows.len() {
+            &rows[0..self.used]
+        } else {
+            rows
+        }
+    }
+}
+
+impl<'a> RowList<'a, Move> {
+    // Adds a chance to the sum in the row of move k, from 1, and answers the sum;
+    // refused by Entry where no such row is taken, and by Number where the sum would not fit its row.
+    pub fn add_chance(&mut self, k: usize, chance: u32) -> Result<u32, Refusal>
+        ensures is { λ r. ⌜ AddSays k chance (kept (now (self .entry))) (kept (now (self .exit))) r ⌝ }
+        ensures same { λ _. ⌜ name (now (self .exit) .rows) ≡ name (now (self .entry) .rows) ⌝ }
+    {
+        match self.get(k) {
+            Ok(row) => {
+                if row.sum > u32::MAX - chance {
+                    return Err(Refusal::Number);
+                }
+                self.raise(k, chance);
+                Ok(row.sum + chance)
+            }
+            Err(why) => Err(why),
+        }
+    }
+
+    // Adds to the sum in row k, from 1.
+    fn raise(&mut self, k: usize, chance: u32)
+        requires there { ⌜ 1 ≤ k ⌝ ∗ ⌜ k ≤ length (now (now self .rows)) ⌝ }
+        requires fits { ⌜ move-row (kept (now self)) k .sum + chance < 2 ^ 32 ⌝ }
+        ensures is { λ _. ⌜ kept (now (self .exit)) ≡ changed (kept (now (self .entry))) k (raised (move-row (kept (now (self .entry))) k) chance) ⌝ }
+        ensures same { λ _. ⌜ name (now (self .exit) .rows) ≡ name (now (self .entry) .rows) ⌝ }
+    {
+        self.rows[k - 1].sum += chance;
     }
 }
