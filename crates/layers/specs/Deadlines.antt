@@ -1,0 +1,41 @@
+-- What the layers make of the meaning below.
+use mathlib.Core.Path.{_≡_}
+use mathlib.Core.List.{List, [], _∷_, map}
+use mathlib.Core.Bool.{Bool, true, false, cond}
+use Prim.Native.Nat.{ℕ, suc, _+_, _≤_, _<_}
+use lib.Dec.{ltb}
+use lib.ListN.{length, getD, set}
+use lib.IntN.{pos}
+use Rattle.std.specs.declared.option.Option.{Option}
+use Rattle.std.specs.declared.option.Option.the-variants.{Some, None}
+use Rattle.zones.specs.declared.boxes.Side.{Side}
+use Rattle.zones.specs.declared.boxes.ClockBox.{ClockBox}
+use Rattle.plans.specs.declared.rows.Goal.{Goal}
+use Rattle.plans.specs.Meaning.{PlanMeaning}
+
+-- `<= T` and no lower bound
+abbrev pub by-then : ℕ → Side
+by-then T = record { lower = None; upper = Some (record { number = pos T; closed = true }) }
+
+-- the box with `<= T` on the clock n + 1
+abbrev pub timed-box : ℕ → ℕ → ClockBox → ClockBox
+timed-box T n b = record { sides = set (b .sides) n (by-then T) }
+
+abbrev pub timed : ℕ → ℕ → Goal → Goal
+timed T n g = record { position = g .position; area = timed-box T n (g .area) }
+
+-- one clock more, that nothing resets, and `<= T` on it in every goal
+abbrev pub deadlined : ℕ → PlanMeaning → PlanMeaning
+deadlined T m = record {
+  allows = m .allows;
+  normal = m .normal;
+  clocks = m .clocks + 1;
+  positions = m .positions;
+  moves = m .moves;
+  outcomes = m .outcomes;
+  goals = map (timed T (m .clocks)) (m .goals);
+}
+
+-- what a deadline over any plan means: over eight clocks, which set-up refuses, what the plan below does
+abbrev pub under : ℕ → PlanMeaning → PlanMeaning
+under T m = cond (ltb (m .clocks) 8) (deadlined T m) m

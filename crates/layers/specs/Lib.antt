@@ -1,0 +1,4 @@
+pub mod Deadlines
+pub mod Restrictions
+pub mod LayersSound
+pub mod Theorems
