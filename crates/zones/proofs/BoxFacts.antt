@@ -132,40 +132,60 @@ module _ (allows : ℕ → Bool) (normal : UpperBound → UpperBound) (sides : L
 
     pub box-more : (ws : List Code) → CutSays allows normal (row-of n) (column-of n) (box-bound sides n) ys ws (Ok cut.Kept) → Boxed allows normal sides xs ws (n + 1)
     box-more ws s = subst (Boxed allows normal sides xs ws) (sym (add-one n)) (record {
-      keeps = s .2;
-      is = λ a b ha hb. s .3 a b ha hb ∙ next-is a b ha hb;
-      fine = λ m h o. ⊎-elim {C = ⊥} (λ e. s .1 (over-from (subst (OverAt normal sides (at xs)) e o))) (λ e. z .fine m (omega arith) o) (cases-eq m n);
-      inn = λ D v al h u. s .4 D v al .1 (al, z .inn D v al h (λ m l. u m (omega arith)), u n (omega arith));
-      out = λ D v al h. let l = s .4 D v al .0 h in let r = z .out D v al (l .1) in (r .0, more D v (r .1) (l .2));
+      keeps = s .of-domain;
+      is = λ a b ha hb. s .bounds a b ha hb ∙ next-is a b ha hb;
+      fine = λ m h o. ⊎-elim {C = ⊥} (λ e. s .in-range (over-from (subst (OverAt normal sides (at xs)) e o))) (λ e. z .fine m (omega arith) o) (cases-eq m n);
+      inn = λ D v al h u. s .states D v al .1 (al, z .inn D v al h (λ m l. u m (omega arith)), u n (omega arith));
+      out = λ D v al h. let l = s .states D v al .0 h in let r = z .out D v al (l .1) in (r .0, more D v (r .1) (l .2));
     })
 
     pub box-empty : (ws : List Code) → Plain sides → OfDomain normal xs → CutSays allows normal (row-of n) (column-of n) (box-bound sides n) ys ws (Ok cut.Empty) → BoxSays allows normal sides xs xs (Ok cut.Empty)
-    box-empty ws p keeps s = (p, keeps, (n, hn, z .fine, gone), λ D v al h b. gone D v al h (λ m l. box-upto sides D v b m (omega arith)), refl)
+    box-empty ws p keeps s = record {
+      plain = p;
+      was-of-domain = keeps;
+      step = (n, hn, z .fine, gone);
+      gone = λ D v al h b. gone D v al h (λ m l. box-upto sides D v b m (omega arith));
+      unchanged = refl;
+    }
       where
         gone : NoneTo allows sides xs (suc n)
-        gone D v al h u = s .1 D v (al, z .inn D v al h (λ m l. u m (omega arith)), u n (omega arith))
+        gone D v al h u = s .gone D v (al, z .inn D v al h (λ m l. u m (omega arith)), u n (omega arith))
 
     pub box-refused : (ws : List Code) (why : Refusal) → Plain sides → OfDomain normal xs → CutSays allows normal (row-of n) (column-of n) (box-bound sides n) ys ws (Err why) → BoxSays allows normal sides xs xs (Err why)
-    box-refused ws refused.Name p keeps s = s .0 (row-9 n hn, column-9 n hn)
-    box-refused ws refused.Number p keeps s = absurd (s .2 (not-beyond sides p n hn, z .keeps))
+    box-refused ws refused.Line p keeps s = s
+    box-refused ws refused.Order p keeps s = s
+    box-refused ws refused.Number p keeps s = absurd (s .unfit (not-beyond sides p n hn, z .keeps))
+    box-refused ws refused.Name p keeps s = s .unknown (row-9 n hn, column-9 n hn)
+    box-refused ws refused.Chance p keeps s = s
+    box-refused ws refused.Rows p keeps s = s
+    box-refused ws refused.Clocks p keeps s = s
     box-refused ws refused.State p keeps s = s
+    box-refused ws refused.Full p keeps s = s
     box-refused ws refused.Range p keeps s =
-        let t = s .1 in
+        let t = s .some in
         let D = t .0 in
         let v = t .1 .0 in
         let l = t .1 .1 .1 in
         let r = z .out D v (l .0) (l .1) in
-        (p, keeps, (n, hn, z .fine, (D, (v, (t .1 .1 .0, l .0, r .0, more D v (r .1) (l .2)))), over-to (s .2)), refl)
+        record {
+          plain = p;
+          was-of-domain = keeps;
+          step = (n, hn, z .fine, (D, (v, (t .1 .1 .0, l .0, r .0, more D v (r .1) (l .2)))), over-to (s .over));
+          unchanged = refl;
+        }
+    box-refused ws refused.Phase p keeps s = s
+    box-refused ws refused.Entry p keeps s = s
+    box-refused ws refused.Buffer p keeps s = s
 
   pub box-done : (ys : List Code) → Plain sides → OfDomain normal xs → Boxed allows normal sides xs ys 16 → BoxSays allows normal sides xs ys (Ok cut.Kept)
-  box-done ys p keeps z = (
-    p,
-    keeps,
-    z .keeps,
-    z .fine,
-    z .is,
-    λ D v al. (λ h. let r = z .out D v al h in (r .0, upto-box sides D v (r .1)), λ h. z .inn D v al (h .0) (box-upto sides D v (h .1))),
-  )
+  box-done ys p keeps z = record {
+    plain = p;
+    was-of-domain = keeps;
+    of-domain = z .keeps;
+    in-range = z .fine;
+    bounds = z .is;
+    states = λ D v al. (λ h. let r = z .out D v al h in (r .0, upto-box sides D v (r .1)), λ h. z .inn D v al (h .0) (box-upto sides D v (h .1)));
+  }
 
 -- what a cut says, under other names for what it was passed
 pub cut-says : (allows : ℕ → Bool) (normal : UpperBound → UpperBound) (ys ws : List Code) (i i′ j j′ : ℕ) (l l′ : UpperBound) (r r′ : Result Cut Refusal) → i ≡ i′ → j ≡ j′ → l ≡ l′ → r ≡ r′

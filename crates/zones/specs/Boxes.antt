@@ -91,14 +91,14 @@ NoneTo allows sides xs n = (D : ℕ) (v : ℕ → ℤ) → allows D ≡ true →
 pub record BoxOver (allows : ℕ → Bool) (normal : UpperBound → UpperBound) (sides : List Side) (xs ys : List Code) : Type 0 where
   pub plain : Plain sides
   pub was-of-domain : OfDomain normal xs
-  pub where : (n : ℕ) × (n < 16) × FineTo normal sides (at xs) n × SomeTo allows sides xs (suc n) × OverAt normal sides (at xs) n
+  pub step : (n : ℕ) × (n < 16) × FineTo normal sides (at xs) n × SomeTo allows sides xs (suc n) × OverAt normal sides (at xs) n
   pub unchanged : ys ≡ xs
 
 -- no state of xs lies in the box, and no bound is out of range before the step that leaves none
 pub record BoxEmpty (allows : ℕ → Bool) (normal : UpperBound → UpperBound) (sides : List Side) (xs ys : List Code) : Type 0 where
   pub plain : Plain sides
   pub was-of-domain : OfDomain normal xs
-  pub where : (n : ℕ) × (n < 16) × FineTo normal sides (at xs) n × NoneTo allows sides xs (suc n)
+  pub step : (n : ℕ) × (n < 16) × FineTo normal sides (at xs) n × NoneTo allows sides xs (suc n)
   pub gone : (D : ℕ) (v : ℕ → ℤ) → allows D ≡ true → Holds (at xs) D v → InBox sides D v → ⊥
   pub unchanged : ys ≡ xs
 

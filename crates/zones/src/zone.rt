@@ -273,7 +273,7 @@ fn normal_code<K: TimeDomain>(code: Code, time: &K) -> bool
 }
 
 // Whether the time takes every place in as it is.
-fn kept<K: TimeDomain>(codes: &[Code; 81], time: &K) -> bool
+fn of_domain<K: TimeDomain>(codes: &[Code; 81], time: &K) -> bool
     requires { ⌜ Sound (now codes) ⌝ }
     ensures { λ r. ⌜ (r ≡ true → OfDomain (normal (now (time .entry))) (now (codes .entry))) × (OfDomain (normal (now (time .entry))) (now (codes .entry)) → r ≡ true) ⌝ }
 {

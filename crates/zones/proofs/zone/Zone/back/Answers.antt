@@ -21,4 +21,9 @@ returns g c =
     let ys = c .backed-next .result in
     let is = c .backed-next .ensures in
     let keeps = c .of-domain .ensures .0 (c .if-not-of-domain .left) in
-    (keeps, back-kept xs ys s is laws keeps, back-is xs ys s is, back-exact xs ys s is laws keeps)
+    record {
+      was-of-domain = keeps;
+      of-domain = back-kept xs ys s is laws keeps;
+      bounds = back-is xs ys s is;
+      states = back-exact xs ys s is laws keeps;
+    }
