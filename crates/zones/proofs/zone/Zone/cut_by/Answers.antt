@@ -24,7 +24,7 @@ of-domain-requires g c κs = sound _ (c .args .self .now .ok)
 pub coded-c-requires : need.coded-c-requires
 coded-c-requires g c κs =
     let k = c .args .time .now in
-    let t = g .K·TimeDomain in
+    let t = g .T·TimeDomain in
     let laws = scale-laws (t .allows k) (t .normal k) (t .lawful k) in
     let f : SFits w32 (c .args .bound .number) = search needs in
     let low : negsuc 999999 ≤ℤ c .args .bound .number = omega (arith, ints, c .if-bound-ltminus1000000 .left) in
@@ -41,7 +41,7 @@ joined-requires g c κs =
 pub returns-then-joined : need.returns-then-joined
 returns-then-joined g c =
     let k = c .args .time .now in
-    let t = g .K·TimeDomain in
+    let t = g .T·TimeDomain in
     let laws = scale-laws (t .allows k) (t .normal k) (t .lawful k) in
     let xs = c .args .self .now .codes in
     let s = sound xs (c .args .self .now .ok) in
@@ -69,7 +69,7 @@ tightened-requires g c κs =
 pub ghost-self : need.ghost-self
 ghost-self g c =
     let k = c .args .time .now in
-    let t = g .K·TimeDomain in
+    let t = g .T·TimeDomain in
     let laws = scale-laws (t .allows k) (t .normal k) (t .lawful k) in
     let xs = c .args .self .now .codes in
     let s = sound xs (c .args .self .now .ok) in
@@ -86,7 +86,7 @@ ghost-self g c =
 pub returns-in-Some : need.returns-in-Some
 returns-in-Some g c =
     let k = c .args .time .now in
-    let t = g .K·TimeDomain in
+    let t = g .T·TimeDomain in
     let laws = scale-laws (t .allows k) (t .normal k) (t .lawful k) in
     let xs = c .args .self .now .codes in
     let s = sound xs (c .args .self .now .ok) in
@@ -112,7 +112,7 @@ returns-in-Some g c =
 pub returns-in-None : need.returns-in-None
 returns-in-None g c =
     let k = c .args .time .now in
-    let t = g .K·TimeDomain in
+    let t = g .T·TimeDomain in
     let laws = scale-laws (t .allows k) (t .normal k) (t .lawful k) in
     let xs = c .args .self .now .codes in
     let s = sound xs (c .args .self .now .ok) in
