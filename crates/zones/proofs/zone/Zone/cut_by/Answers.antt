@@ -24,7 +24,7 @@ of-domain-requires g c κs = sound _ (c .args .self .now .ok)
 pub coded-c-requires : need.coded-c-requires
 coded-c-requires g c κs =
     let k = c .args .time .now in
-    let t = g .K·TimeDomain in
+    let t = g .T·TimeDomain in
     let laws = scale-laws (t .allows k) (t .normal k) (t .lawful k) in
     let f : SFits w32 (c .args .bound .number) = search needs in
     let low : negsuc 999999 ≤ℤ c .args .bound .number = omega (arith, ints, c .if-bound-ltminus1000000 .left) in
@@ -41,7 +41,7 @@ joined-requires g c κs =
 pub returns-then-joined : need.returns-then-joined
 returns-then-joined g c =
     let k = c .args .time .now in
-    let t = g .K·TimeDomain in
+    let t = g .T·TimeDomain in
     let laws = scale-laws (t .allows k) (t .normal k) (t .lawful k) in
     let xs = c .args .self .now .codes in
     let s = sound xs (c .args .self .now .ok) in
@@ -54,11 +54,12 @@ returns-then-joined g c =
     let nc = c .coded-c .ensures .near in
     let f : SFits w32 (c .args .bound .number) = search needs in
     let low : negsuc 999999 ≤ℤ c .args .bound .number = omega (arith, ints, c .if-bound-ltminus1000000 .left) in
-    let high : c .args .bound .number ≤ℤ pos 1000000 = omega (arith, ints, c .if-bound-gt1000000 .left) in (
-      (hi, hj, not-beyond _ _ low high, keeps),
-      none-left laws xs s keeps (c .args .i) (c .args .j) hi hj l code nc ec (subst (λ n. n < 33554433) (c .joined .ensures) (c .if-joined .taken)),
-      refl,
-    )
+    let high : c .args .bound .number ≤ℤ pos 1000000 = omega (arith, ints, c .if-bound-gt1000000 .left) in
+    record {
+      fit = record { row = hi; column = hj; number = not-beyond _ _ low high; of-domain = keeps };
+      gone = none-left laws xs s keeps (c .args .i) (c .args .j) hi hj l code nc ec (subst (λ n. n < 33554433) (c .joined .ensures) (c .if-joined .taken));
+      unchanged = refl;
+    }
 
 pub tightened-requires : need.tightened-requires
 tightened-requires g c κs =
@@ -68,7 +69,7 @@ tightened-requires g c κs =
 pub ghost-self : need.ghost-self
 ghost-self g c =
     let k = c .args .time .now in
-    let t = g .K·TimeDomain in
+    let t = g .T·TimeDomain in
     let laws = scale-laws (t .allows k) (t .normal k) (t .lawful k) in
     let xs = c .args .self .now .codes in
     let s = sound xs (c .args .self .now .ok) in
@@ -85,7 +86,7 @@ ghost-self g c =
 pub returns-in-Some : need.returns-in-Some
 returns-in-Some g c =
     let k = c .args .time .now in
-    let t = g .K·TimeDomain in
+    let t = g .T·TimeDomain in
     let laws = scale-laws (t .allows k) (t .normal k) (t .lawful k) in
     let xs = c .args .self .now .codes in
     let s = sound xs (c .args .self .now .ok) in
@@ -99,18 +100,19 @@ returns-in-Some g c =
     let f : SFits w32 (c .args .bound .number) = search needs in
     let low : negsuc 999999 ≤ℤ c .args .bound .number = omega (arith, ints, c .if-bound-ltminus1000000 .left) in
     let high : c .args .bound .number ≤ℤ pos 1000000 = omega (arith, ints, c .if-bound-gt1000000 .left) in
-    let some : 33554433 ≤ code-plus (code-of xs (9 * c .args .j + c .args .i)) code = subst (λ n. 33554433 ≤ n) (c .joined .ensures) (c .if-joined .left) in (
-      (hi, hj, not-beyond _ _ low high, keeps),
-      not-over laws xs s keeps (c .args .i) (c .args .j) hi hj l code nc ec some (c .in-Some .next) (c .in-Some .ensures tt),
-      still-kept laws xs s keeps (c .args .i) (c .args .j) hi hj l code nc ec some (c .in-Some .next) (c .in-Some .ensures tt),
-      at-is laws xs s keeps (c .args .i) (c .args .j) hi hj l code nc ec some (c .in-Some .next) (c .in-Some .ensures tt),
-      exact laws xs s keeps (c .args .i) (c .args .j) hi hj l code nc ec some (c .in-Some .next) (c .in-Some .ensures tt),
-    )
+    let some : 33554433 ≤ code-plus (code-of xs (9 * c .args .j + c .args .i)) code = subst (λ n. 33554433 ≤ n) (c .joined .ensures) (c .if-joined .left) in
+    record {
+      fit = record { row = hi; column = hj; number = not-beyond _ _ low high; of-domain = keeps };
+      in-range = not-over laws xs s keeps (c .args .i) (c .args .j) hi hj l code nc ec some (c .in-Some .next) (c .in-Some .ensures tt);
+      of-domain = still-kept laws xs s keeps (c .args .i) (c .args .j) hi hj l code nc ec some (c .in-Some .next) (c .in-Some .ensures tt);
+      bounds = at-is laws xs s keeps (c .args .i) (c .args .j) hi hj l code nc ec some (c .in-Some .next) (c .in-Some .ensures tt);
+      states = exact laws xs s keeps (c .args .i) (c .args .j) hi hj l code nc ec some (c .in-Some .next) (c .in-Some .ensures tt);
+    }
 
 pub returns-in-None : need.returns-in-None
 returns-in-None g c =
     let k = c .args .time .now in
-    let t = g .K·TimeDomain in
+    let t = g .T·TimeDomain in
     let laws = scale-laws (t .allows k) (t .normal k) (t .lawful k) in
     let xs = c .args .self .now .codes in
     let s = sound xs (c .args .self .now .ok) in
@@ -124,24 +126,26 @@ returns-in-None g c =
     let f : SFits w32 (c .args .bound .number) = search needs in
     let low : negsuc 999999 ≤ℤ c .args .bound .number = omega (arith, ints, c .if-bound-ltminus1000000 .left) in
     let high : c .args .bound .number ≤ℤ pos 1000000 = omega (arith, ints, c .if-bound-gt1000000 .left) in
-    let some : 33554433 ≤ code-plus (code-of xs (9 * c .args .j + c .args .i)) code = subst (λ n. 33554433 ≤ n) (c .joined .ensures) (c .if-joined .left) in (
-      (hi, hj, not-beyond _ _ low high, keeps),
-      some-left laws xs s keeps (c .args .i) (c .args .j) hi hj l code nc ec some,
-      over laws xs s keeps (c .args .i) (c .args .j) hi hj l code nc ec (c .in-None .ensures tt),
-      refl,
-    )
+    let some : 33554433 ≤ code-plus (code-of xs (9 * c .args .j + c .args .i)) code = subst (λ n. 33554433 ≤ n) (c .joined .ensures) (c .if-joined .left) in
+    record {
+      fit = record { row = hi; column = hj; number = not-beyond _ _ low high; of-domain = keeps };
+      some = some-left laws xs s keeps (c .args .i) (c .args .j) hi hj l code nc ec some;
+      over = over laws xs s keeps (c .args .i) (c .args .j) hi hj l code nc ec (c .in-None .ensures tt);
+      unchanged = refl;
+    }
 
 pub returns-then-bound-ltminus1000000 : need.returns-then-bound-ltminus1000000
 returns-then-bound-ltminus1000000 g c =
-    let f : SFits w32 (c .args .bound .number) = search needs in (
-      omega (arith, c .if-i-gt8 .left),
-      omega (arith, c .if-j-gt8 .left),
-      elim (c .then-bound-ltminus1000000 .came) [
+    let f : SFits w32 (c .args .bound .number) = search needs in
+    record {
+      row = omega (arith, c .if-i-gt8 .left);
+      column = omega (arith, c .if-j-gt8 .left);
+      unfit = elim (c .then-bound-ltminus1000000 .came) [
         | then-bound-ltminus1000000·by·then-bound-ltminus1000000 w ↦ λ h. under _ (c .args .bound .number) (omega (arith, ints, w .if-bound-ltminus1000000 .taken)) (h .0)
         | then-bound-ltminus1000000·by·else-bound-ltminus1000000·then-bound-gt1000000 w ↦ λ h. upper _ (c .args .bound .number) (omega (arith, ints, w .if-bound-gt1000000 .taken)) (h .0)
-      ],
-      refl,
-    )
+      ];
+      unchanged = refl;
+    }
 
 pub returns-in-Err : need.returns-in-Err
 returns-in-Err g c =
