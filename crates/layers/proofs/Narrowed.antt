@@ -24,7 +24,8 @@ use Rattle.plans.specs.Boxes.{InSide, blank, side, InBox, later, reset, BoxOf}
 use Rattle.zones.specs.Boxes.{turned, no-side}
 use Rattle.plans.specs.Meaning.{PlanMeaning, WellFormed, no-position, no-box, position-at, move-at, invariant-of, cause-of, outcome-at, goal-at}
 use Rattle.plans.specs.Items.{Names}
-use Rattle.layers.specs.Restrictions.{below, above, lowest, highest, both, narrow-sides, narrow-box, narrowed, restricted, box-of, BoxesFor, Stays}
+use Rattle.layers.specs.Narrowing.{below, above, lowest, highest, both, narrow-sides, narrow-box}
+use Rattle.layers.specs.Restrictions.{narrowed, restricted, box-of, BoxesFor, Stays}
 use Rattle.plans.specs.Routes.{Waits, Reaches, Crosses, Run, Route}
 use Rattle.plans.specs.Routes.Run.{last, first}
 use Rattle.layers.specs.LayersSound.{narrow-at, narrow-past, narrowed-at}

@@ -14,7 +14,8 @@ use Rattle.plans.specs.declared.rows.Position.{Position}
 use Rattle.zones.specs.Boxes.{no-side}
 use Rattle.plans.specs.Items.{Item}
 use Rattle.plans.specs.Meaning.{PlanMeaning, no-box, no-position}
-use Rattle.layers.specs.Restrictions.{both, narrow-sides, narrow-box, narrowed, restricted}
+use Rattle.layers.specs.Narrowing.{both, narrow-sides, narrow-box}
+use Rattle.layers.specs.Restrictions.{narrowed, restricted}
 use Rattle.layers.specs.LayersSound.{narrow-past, narrowed-at, length-narrowed}
 
 pub narrow-zero : (bs ss : List Side) → narrow-sides 0 bs ss ≡ ss

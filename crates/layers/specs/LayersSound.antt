@@ -28,7 +28,8 @@ use Rattle.zones.specs.Boxes.{no-side}
 use Rattle.plans.specs.Sound.{in-range-prop}
 use Rattle.plans.specs.Meaning.{PlanMeaning, WellFormed, OutcomeOf, no-goal, no-box, no-position, position-at, move-at, outcome-at, goal-at}
 use Rattle.plans.specs.Items.{Names}
-use Rattle.layers.specs.Restrictions.{below, above, lowest, highest, both, narrow-sides, narrow-box, narrowed, restricted}
+use Rattle.layers.specs.Narrowing.{below, above, lowest, highest, both, narrow-sides, narrow-box}
+use Rattle.layers.specs.Restrictions.{narrowed, restricted}
 use Rattle.plans.specs.declared.rows.Position.{Position}
 use Rattle.layers.specs.Deadlines.{by-then, timed-box, timed, deadlined, under}
 

@@ -1,52 +1,19 @@
--- Boxes narrowed by boxes, and what a restriction makes of the meaning below.
+-- What a restriction makes of the meaning below.
 use mathlib.Core.Path.{_≡_}
+use mathlib.Core.Logic.{_⊎_, _≢_}
 use mathlib.Core.List.{List, [], _∷_}
-use mathlib.Core.Bool.{Bool, true, false, cond, _&&_, _||_, not}
-use Prim.Native.Nat.{ℕ, zero, suc, _+_, _-_, _≤_, _<_}
+use Prim.Native.Nat.{ℕ, _-_, _<_}
 use lib.ListN.{length, getD}
-use lib.Signed.{ltZ, leZ}
-use Rattle.std.specs.declared.option.Option.{Option}
-use Rattle.std.specs.declared.option.Option.the-variants.{Some, None}
-use Rattle.bounds.specs.declared.bound.Bound.{Bound}
-use Rattle.zones.specs.declared.boxes.Side.{Side}
+use Rattle.bounds.specs.declared.refusal.Refusal.{Refusal}
+use Rattle.bounds.specs.declared.refusal.Refusal.the-variants as refused
 use Rattle.zones.specs.declared.boxes.ClockBox.{ClockBox}
 use Rattle.plans.specs.declared.rows.Position.{Position}
 use Rattle.plans.specs.Boxes.{InBox, later, BoxOf}
+use Rattle.plans.specs.BoxChecks.{FirstWrong}
 use Rattle.plans.specs.Meaning.{PlanMeaning, no-box}
 use Rattle.plans.specs.Routes.{Run}
 use Rattle.plans.specs.Routes.Run.{last, first}
-
--- as upper bounds: a is tighter than b
-abbrev pub below : Bound → Bound → Bool
-below a b = ltZ (a .number) (b .number) || (leZ (a .number) (b .number) && (not (a .closed) && b .closed))
-
--- as lower bounds: a is tighter than b
-abbrev pub above : Bound → Bound → Bool
-above a b = ltZ (b .number) (a .number) || (leZ (b .number) (a .number) && (not (a .closed) && b .closed))
-
-abbrev pub lowest : Option Bound → Option Bound → Option Bound
-lowest None b = b
-lowest (Some a) None = Some a
-lowest (Some a) (Some b) = cond (below a b) (Some a) (Some b)
-
-abbrev pub highest : Option Bound → Option Bound → Option Bound
-highest None b = b
-highest (Some a) None = Some a
-highest (Some a) (Some b) = cond (above a b) (Some a) (Some b)
-
--- both sides at once
-abbrev pub both : Side → Side → Side
-both a b = record { lower = highest (a .lower) (b .lower); upper = lowest (a .upper) (b .upper) }
-
--- the first n sides narrowed
-abbrev pub narrow-sides : ℕ → List Side → List Side → List Side
-narrow-sides n [] ss = ss
-narrow-sides n (b ∷ bs) [] = []
-narrow-sides zero (b ∷ bs) (s ∷ ss) = s ∷ ss
-narrow-sides (suc n) (b ∷ bs) (s ∷ ss) = both b s ∷ narrow-sides n bs ss
-
-abbrev pub narrow-box : ℕ → ClockBox → ClockBox → ClockBox
-narrow-box n b c = record { sides = narrow-sides n (b .sides) (c .sides) }
+use Rattle.layers.specs.Narrowing.{narrow-box}
 
 -- each invariant narrowed by the box of its own, on the first n clocks
 abbrev pub narrowed : ℕ → List ClockBox → List Position → List Position
@@ -78,3 +45,9 @@ pub record BoxesFor (m : PlanMeaning) (bs : List ClockBox) : Type 0 where
 abbrev pub Stays : (bs : List ClockBox) (m : PlanMeaning) (D : ℕ) {p k t : ℕ} {v : ℕ → ℕ} → Run m D p v k t → Type 0
 Stays bs m D {p} {v = v} (last w g a r) = InBox (box-of bs p) D v × InBox (box-of bs p) D (later w v)
 Stays bs m D {p} {v = v} (first w o a c rest) = InBox (box-of bs p) D v × InBox (box-of bs p) D (later w v) × Stays bs m D rest
+
+-- by Rows for their count, then the first wrong box by Number and then by Name
+abbrev pub RestrictionRefused : PlanMeaning → List ClockBox → Refusal → Type 0
+RestrictionRefused m bs e =
+    ((length bs ≢ length (m .positions)) × (e ≡ refused.Rows))
+    ⊎ ((length bs ≡ length (m .positions)) × FirstWrong (m .clocks) bs e)

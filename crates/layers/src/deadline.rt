@@ -1,11 +1,9 @@
 ghost use mathlib.Core.Path.{_≡_};
-ghost use mathlib.Core.Logic.{_⊎_};
 ghost use mathlib.Core.Bool.{cond};
 ghost use Prim.Native.Nat.{ℕ, _<_, _≤_};
 ghost use lib.Dec.{ltb};
 ghost use Rattle.std.specs.Results.{Cases as ByOk};
-ghost use Rattle.bounds.specs.declared.refusal.Refusal.the-variants as refused;
-ghost use Rattle.layers.specs.Deadlines.{timed, under};
+ghost use Rattle.layers.specs.Deadlines.{timed, under, DeadlineMeans, DeadlineRefused};
 ghost use Rattle.layers.specs.LayersSound.{under-sound};
 ghost use Rattle.layers.specs.Theorems.{DeadlineRuns, DeadlineRoutes, DeadlineStates, StackedRoutes, MixedRoutes};
 use super::restriction::PlanOfRestriction;
@@ -20,63 +18,63 @@ use plans::rows::Position;
 use zones::boxes::ClockBox;
 use zones::boxes::Side;
 
-// A deadline over any plan: one clock more, that nothing resets, and at most `limit` ticks on it in every goal.
+// A deadline over any plan: one clock more, that nothing resets, and at most `ticks` ticks on it in every goal.
 #[derive(Drop)]
 pub struct Deadline<P: Plan> {
     below: P,
-    limit: u32,
-    ghost small: { limit ≤ 1000000 },
+    ticks: u32,
+    ghost small: { ticks ≤ 1000000 },
 }
 
 impl<P: Plan> Deadline<P> {
-    // Refuses a limit above 1,000,000, and then a plan of eight clocks.
-    pub fn set_up(below: P, limit: u32) -> Result<Deadline<P>, Refusal>
+    // Refuses more than 1,000,000 ticks by Number, and then a plan that has eight clocks by Clocks.
+    pub fn new(below: P, ticks: u32) -> Result<Deadline<P>, Refusal>
     where
         P: Drop,
-        ensures { λ r. ⌜ ByOk r (λ d. (P·Plan .meaning below .clocks < 8) × (d .below ≡ below) × (d .limit ≡ limit)) (λ e. ((1000000 < limit) × (e ≡ refused.Number)) ⊎ ((limit ≤ 1000000) × (8 ≤ P·Plan .meaning below .clocks) × (e ≡ refused.Clocks))) ⌝ }
+        ensures { λ r. ⌜ ByOk r (λ d. (d .below ≡ below) × (d .ticks ≡ ticks) × DeadlineMeans ticks (P·Plan .meaning below)) (λ e. DeadlineRefused ticks (P·Plan .meaning below) e) ⌝ }
     {
-        if limit > 1_000_000 {
+        if ticks > 1_000_000 {
             return Err(Refusal::Number);
         }
         if below.clocks() >= 8 {
             return Err(Refusal::Clocks);
         }
-        Ok(Deadline { below, limit })
+        Ok(Deadline { below, ticks })
     }
 
     // How many ticks a route may last.
-    pub fn limit(&self) -> u32
-        ensures is { λ r. ⌜ r ≡ now (self .entry) .limit ⌝ }
+    pub fn ticks(&self) -> u32
+        ensures is { λ r. ⌜ r ≡ now (self .entry) .ticks ⌝ }
         ensures runs { λ r. ⌜ DeadlineRuns r (P·Plan .meaning (now (self .entry) .below)) ⌝ }
         ensures routes { λ r. ⌜ DeadlineRoutes r (P·Plan .meaning (now (self .entry) .below)) ⌝ }
         ensures states { λ r. ⌜ DeadlineStates r (P·Plan .meaning (now (self .entry) .below)) ⌝ }
     {
-        self.limit
+        self.ticks
     }
 }
 
-// The limits of a deadline over a deadline.
-pub fn limits<P: Plan>(d: &Deadline<Deadline<P>>) -> (u32, u32)
-    ensures is { λ r. ⌜ (r .0 ≡ now (d .entry) .limit) × (r .1 ≡ now (d .entry) .below .limit) ⌝ }
+// The ticks of a deadline over a deadline, and of the one below.
+pub fn ticks_of_both<P: Plan>(d: &Deadline<Deadline<P>>) -> (u32, u32)
+    ensures is { λ r. ⌜ (r .0 ≡ now (d .entry) .ticks) × (r .1 ≡ now (d .entry) .below .ticks) ⌝ }
     ensures routes { λ r. ⌜ StackedRoutes (r .0) (r .1) (P·Plan .meaning (now (d .entry) .below .below)) ⌝ }
 {
-    (d.limit, d.below.limit)
+    (d.ticks, d.below.ticks)
 }
 
-// The limit of a deadline over a restriction.
-pub fn limit_in_boxes<P: Plan>(d: &Deadline<Restriction<P>>) -> u32
-    ensures is { λ r. ⌜ r ≡ now (d .entry) .limit ⌝ }
-    ensures routes { λ r. ⌜ MixedRoutes r (now (now (d .entry) .below .boxes)) (P·Plan .meaning (now (d .entry) .below .under)) ⌝ }
+// The ticks of a deadline over a restriction.
+pub fn ticks_in_boxes<P: Plan>(d: &Deadline<Restriction<P>>) -> u32
+    ensures is { λ r. ⌜ r ≡ now (d .entry) .ticks ⌝ }
+    ensures routes { λ r. ⌜ MixedRoutes r (now (now (d .entry) .below .boxes)) (P·Plan .meaning (now (d .entry) .below .below)) ⌝ }
 {
-    d.limit
+    d.ticks
 }
 
 pub impl<P: Plan> Plan for Deadline<P> as PlanOfDeadline {
     type Time = P::Time;
 
-    ghost meaning = { λ d. under (d .limit) (P·Plan .meaning (d .below)) };
+    ghost meaning = { λ d. under (d .ticks) (P·Plan .meaning (d .below)) };
 
-    ghost sound = { λ d. under-sound (d .limit) (P·Plan .meaning (d .below)) (d .small) (P·Plan .sound (d .below)) };
+    ghost sound = { λ d. under-sound (d .ticks) (P·Plan .meaning (d .below)) (d .small) (P·Plan .sound (d .below)) };
 
     fn time(&self) -> P::Time {
         self.below.time()
@@ -117,23 +115,23 @@ pub impl<P: Plan> Plan for Deadline<P> as PlanOfDeadline {
 
     fn goal(&self, k: usize) -> Result<Goal, Refusal> {
         match self.below.goal(k) {
-            Ok(g) => Ok(timed_goal(g, self.limit, self.below.clocks())),
+            Ok(g) => Ok(timed_goal(g, self.ticks, self.below.clocks())),
             Err(e) => Err(e),
         }
     }
 }
 
 // The goal with the deadline on the clock after the first `clocks`.
-fn timed_goal(g: Goal, limit: u32, clocks: usize) -> Goal
-    requires { ⌜ limit ≤ 1000000 ⌝ }
-    ensures { λ r. ⌜ r ≡ cond (ltb clocks 8) (timed limit clocks g) g ⌝ }
+fn timed_goal(g: Goal, ticks: u32, clocks: usize) -> Goal
+    requires { ⌜ ticks ≤ 1000000 ⌝ }
+    ensures { λ r. ⌜ r ≡ cond (ltb clocks 8) (timed ticks clocks g) g ⌝ }
 {
     if clocks < 8 {
         let mut sides = g.area.sides;
         sides[clocks] = Side {
             lower: None,
             upper: Some(Bound {
-                number: limit as i32,
+                number: ticks as i32,
                 closed: true,
             }),
         };

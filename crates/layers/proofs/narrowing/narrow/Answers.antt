@@ -3,9 +3,9 @@ use mathlib.Core.Path.{_≡_, sym, ap, _∙_}
 use native.Mathlib.Omega.{arith}
 use lib.ListN.{length}
 use Rattle.zones.specs.declared.boxes.ClockBox.{ClockBox}
-use Rattle.layers.specs.Restrictions.{narrow-sides}
+use Rattle.layers.specs.Narrowing.{narrow-sides}
 use Rattle.layers.proofs.Steps.{narrow-zero, narrow-more}
-use Rattle.layers.proofs.restriction.narrow.Needs as need
+use Rattle.layers.proofs.narrowing.narrow.Needs as need
 
 pub loop-i-holds : need.loop-i-holds
 loop-i-holds c = sym (narrow-zero _ _)

@@ -3,7 +3,7 @@ use mathlib.Core.Path.{_≡_, refl, sym, _∙_, subst}
 use mathlib.Core.Logic.{inl, inr}
 use native.Mathlib.Omega.{arith}
 use Rattle.plans.specs.BoxChecks.{FirstWrong}
-use Rattle.layers.proofs.restriction.Restriction.set_up.Needs as need
+use Rattle.layers.proofs.restriction.Restriction.new.Needs as need
 
 pub ghost-result : need.ghost-result
 ghost-result g c = (∣ (λ k h i l. let b = c .in-Ok .ensures tt k h in (b .low i l, b .high i l)) ∣₁, tt)
