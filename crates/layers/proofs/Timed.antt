@@ -27,11 +27,13 @@ use Rattle.plans.specs.declared.rows.Goal.{Goal}
 use Rattle.plans.specs.Boxes.{InSide, absent, blank, side, InBox, later, reset, scaled, BoxOf}
 use Rattle.zones.specs.Boxes.{turned, no-side}
 use Rattle.plans.specs.Meaning.{PlanMeaning, WellFormed, no-goal, outcome-at, goal-at}
-use Rattle.plans.specs.Routes.{Waits, Reaches, Crosses, Run, Route, Within, TimelyRoute, Distance, TimelyDistance}
+use Rattle.plans.specs.Routes.{Waits, Reaches, Crosses, Run, Course, course, Route, SameWay, Within, TimelyRoute, Distance, TimelyDistance}
+use Rattle.plans.specs.Routes.Course.{goes}
 use Rattle.plans.specs.Routes.Run.{last, first}
 use Rattle.layers.specs.Deadlines.{by-then, timed-box, timed, deadlined, under}
 use Rattle.layers.specs.LayersSound.{same-or-not, deadlined-sound}
-use Rattle.layers.specs.Theorems.{Same, DeadlineRuns, DeadlineRoutes, StackedRoutes, reading, DeadlineStates}
+use Rattle.layers.specs.Theorems.{Matches, Timely, DeadlineRuns, DeadlineRoutes, StackedRoutes, reading, DeadlineStates}
+use Rattle.bounds.specs.Logic.{Iff}
 
 -- ---- one side
 in-blank : (D r : ℕ) (l u : Option Bound) → (absent l && absent u) ≡ true → InSide D r (record { lower = l; upper = u })
@@ -44,7 +46,7 @@ in-blank D r (Some l) (Some u) e = let z : _≡_ {A = ℕ} 0 1 = cc in absurd (o
 pub in-free : (D r : ℕ) (s : Side) → blank s ≡ true → InSide D r s
 in-free D r s e = in-blank D r (s .lower) (s .upper) e
 
-in-by-then : (T D r : ℕ) → Same (InSide D r (by-then T)) (r ≤ T * D)
+in-by-then : (T D r : ℕ) → Iff (InSide D r (by-then T)) (r ≤ T * D)
 unfolding Meets turned
 in-by-then T D r = (λ h. let k = h .0 in omega (arith, ints, times-is (pos T) D), λ h. (omega (arith, ints, times-is (pos T) D), tt))
 
@@ -101,34 +103,31 @@ module _ (T D : ℕ) (m : PlanMeaning) (n< : m .clocks < 8) (ok : WellFormed m) 
   runs-on : (o : ℕ) (v : ℕ → ℕ) → o < length (m .outcomes) → reset (outcome-at m o .resets) v (suc (m .clocks)) ≡ v (suc (m .clocks))
   runs-on o v h = rw (ok .outcomes o h .resets (m .clocks) (omega arith))
 
-  pub run-below : {p k t : ℕ} {v : ℕ → ℕ} → Run (deadlined T m) D p v k t → Run m D p v k t × (v (suc (m .clocks)) + t ≤ T * D)
+  pub run-below : {p k t : ℕ} {v : ℕ → ℕ} → (r : Run (deadlined T m) D p v k t) → (s : Run m D p v k t × (v (suc (m .clocks)) + t ≤ T * D)) × (course r ≡ course (s .0))
   run-below {p} {v = v} (last w g a r) =
       let b = reaches-below p (later w v) g r in
-      (last w g a (b .0), b .1)
+      ((last w g a (b .0), b .1), refl)
   run-below {p} {v = v} (first {t = t} w o a c rest) =
       let b = run-below rest in
-      (first w o a (crosses-below p (later w v) o c) (b .0), omega (arith, b .1, runs-on o (later w v) (c .exists)))
+      ((first w o a (crosses-below p (later w v) o c) (b .0 .0), omega (arith, b .0 .1, runs-on o (later w v) (c .exists))), ap (goes w o) (b .1))
 
-  pub run-under : {p k t : ℕ} {v : ℕ → ℕ} → Run m D p v k t → v (suc (m .clocks)) + t ≤ T * D → Run (deadlined T m) D p v k t
-  run-under {p} {v = v} (last w g a r) l = last w g a (reaches-under p (later w v) g r l)
+  pub run-under : {p k t : ℕ} {v : ℕ → ℕ} → (s : Run m D p v k t) → v (suc (m .clocks)) + t ≤ T * D → (r : Run (deadlined T m) D p v k t) × (course r ≡ course s)
+  run-under {p} {v = v} (last w g a r) l = (last w g a (reaches-under p (later w v) g r l), refl)
   run-under {p} {v = v} (first {t = t} w o a c rest) l =
-      first w o a (crosses-under p (later w v) o c) (run-under rest (omega (arith, runs-on o (later w v) (c .exists))))
+      let b = run-under rest (omega (arith, runs-on o (later w v) (c .exists))) in
+      (first w o a (crosses-under p (later w v) o c) (b .0), ap (goes w o) (b .1))
 
 -- ---- routes
 module _ (T D p : ℕ) (v : ℕ → ℕ) (k : ℕ) (m : PlanMeaning) (n< : m .clocks < 8) (ok : WellFormed m) where
-  route-below : Route (deadlined T m) D p v k → TimelyRoute T m D p v k
+  abbrev pub route-below : (r : Route (deadlined T m) D p v k) → (s : TimelyRoute T m D p v k) × SameWay r (s .0)
   route-below r =
       let b = run-below T (r .multiple * D) m n< ok (r .run) in
-      (record { multiple = r .multiple; some = r .some; allowed = r .allowed; lasts = r .lasts; run = b .0 }, omega (arith, b .1))
+      ((record { multiple = r .multiple; some = r .some; allowed = r .allowed; lasts = r .lasts; run = b .0 .0 }, omega (arith, b .0 .1)), (refl, b .1))
 
-  route-under : v (suc (m .clocks)) ≡ 0 → TimelyRoute T m D p v k → Route (deadlined T m) D p v k
-  route-under z (r, l) = record {
-    multiple = r .multiple;
-    some = r .some;
-    allowed = r .allowed;
-    lasts = r .lasts;
-    run = run-under T (r .multiple * D) m n< ok (r .run) (omega (arith, ap (λ x. r .multiple * x) z, mul-zero (r .multiple)));
-  }
+  abbrev pub route-under : v (suc (m .clocks)) ≡ 0 → (s : TimelyRoute T m D p v k) → (r : Route (deadlined T m) D p v k) × SameWay r (s .0)
+  route-under z (r, l) =
+      let b = run-under T (r .multiple * D) m n< ok (r .run) (omega (arith, ap (λ x. r .multiple * x) z, mul-zero (r .multiple))) in
+      (record { multiple = r .multiple; some = r .some; allowed = r .allowed; lasts = r .lasts; run = b .0 }, (refl, b .1))
 
 pub under-is : (T : ℕ) (m : PlanMeaning) → m .clocks < 8 → under T m ≡ deadlined T m
 under-is T m h = ap (λ b. cond b (deadlined T m) m) (lt-ltb (m .clocks) 8 h)
@@ -136,29 +135,32 @@ under-is T m h = ap (λ b. cond b (deadlined T m) m) (lt-ltb (m .clocks) 8 h)
 pub deadline-runs : (T : ℕ) (m : PlanMeaning) → WellFormed m → DeadlineRuns T m
 deadline-runs T m ok n< D p v k t =
     let e : v (suc (m .clocks)) ≡ v (m .clocks + 1) = ap v (sym (add-one (m .clocks))) in
-    subst (λ x. Same (Run x D p v k t) (Run m D p v k t × (v (m .clocks + 1) + t ≤ T * D))) (sym (under-is T m n<)) (
-      λ r. (let b = run-below T D m n< ok r in (b .0, omega (arith, b .1, e))),
+    subst (λ x. Matches (Run x D p v k t) (Run m D p v k t × (v (m .clocks + 1) + t ≤ T * D)) (λ r s. course r ≡ course (s .0))) (sym (under-is T m n<)) (
+      λ r. (let b = run-below T D m n< ok r in ((b .0 .0, omega (arith, b .0 .1, e)), b .1)),
       λ h. run-under T D m n< ok (h .0) (omega (arith, h .1, e)),
     )
 
-pub timely : (T : ℕ) (m : PlanMeaning) → WellFormed m → m .clocks < 8 → (D p : ℕ) (v : ℕ → ℕ) (k : ℕ) → v (m .clocks + 1) ≡ 0 → Same (Route (under T m) D p v k) (TimelyRoute T m D p v k)
+abbrev Told : ℕ → (m n : PlanMeaning) (D p : ℕ) (v : ℕ → ℕ) (k : ℕ) → Type 0
+Told T m n D p v k = Matches (Route n D p v k) (TimelyRoute T m D p v k) (λ r s. SameWay r (s .0))
+
+timely : (T : ℕ) (m : PlanMeaning) → WellFormed m → m .clocks < 8 → (D p : ℕ) (v : ℕ → ℕ) (k : ℕ) → v (m .clocks + 1) ≡ 0 → Told T m (under T m) D p v k
 timely T m ok n< D p v k z =
     let z′ : v (suc (m .clocks)) ≡ 0 = ap v (sym (add-one (m .clocks))) ∙ z in
-    subst (λ x. Same (Route x D p v k) (TimelyRoute T m D p v k)) (sym (under-is T m n<))
+    subst (λ x. Told T m x D p v k) (sym (under-is T m n<))
     (route-below T D p v k m n< ok, route-under T D p v k m n< ok z′)
 
 pub deadline-routes : (T : ℕ) (m : PlanMeaning) → WellFormed m → DeadlineRoutes T m
 deadline-routes T m ok n< D p v k z =
-    let s : (j : ℕ) → Same (Route (under T m) D p v j) (TimelyRoute T m D p v j) = λ j. timely T m ok n< D p v j z in (
-      s k,
-      (
-        λ d. record { route = ∥∥₁-map (d .route) (s k .0); least = λ n r. d .least n (s n .1 r) },
-        λ d. record { route = ∥∥₁-map (d .route) (s k .1); least = λ n r. d .least n (s n .0 r) },
-      ),
-    )
+    let s : (j : ℕ) → Told T m (under T m) D p v j = λ j. timely T m ok n< D p v j z in
+    record {
+      routes = s k;
+      distance = (
+        λ d. record { route = ∥∥₁-map (d .route) (λ r. s k .0 r .0); least = λ n r. d .least n (s n .1 r .0) },
+        λ d. record { route = ∥∥₁-map (d .route) (λ r. s k .1 r .0); least = λ n r. d .least n (s n .0 r .0) },
+      );
+    }
 
 pub stacked-routes : (S T : ℕ) (m : PlanMeaning) → T ≤ 1000000 → WellFormed m → StackedRoutes S T m
-unfolding route-below route-under
 stacked-routes S T m t≤ ok n< D p v k z y =
     let n<8 : m .clocks < 8 = omega arith in
     let m<8 : m .clocks + 1 < 8 = omega arith in
@@ -167,12 +169,15 @@ stacked-routes S T m t≤ ok n< D p v k z y =
     let y′ : v (suc (m .clocks + 1)) ≡ 0 = ap v two ∙ y in
     let e : under S (under T m) ≡ deadlined S (deadlined T m) = ap (under S) (under-is T m n<8) ∙ under-is S (deadlined T m) m<8 in
     let dok : WellFormed (deadlined T m) = deadlined-sound T m t≤ n<8 ok in
-    subst (λ x. Same (Route x D p v k) ((r : Route m D p v k) × Within T m D p v k r × Within S m D p v k r)) (sym e) (
+    subst (λ x. Matches (Route x D p v k) ((r : Route m D p v k) × Within T m D p v k r × Within S m D p v k r) (λ r s. SameWay r (s .0))) (sym e) (
       λ r.
           let a = route-below S D p v k (deadlined T m) m<8 dok r in
-          let b = route-below T D p v k m n<8 ok (a .0) in
-          (b .0, b .1, a .1),
-      λ t. route-under S D p v k (deadlined T m) m<8 dok y′ (route-under T D p v k m n<8 ok z′ (t .0, t .1), t .2),
+          let b = route-below T D p v k m n<8 ok (a .0 .0) in
+          ((b .0 .0, b .0 .1, a .0 .1), (refl, a .1 .1 ∙ b .1 .1)),
+      λ t.
+          let b = route-under T D p v k m n<8 ok z′ (t .0, t .1) in
+          let a = route-under S D p v k (deadlined T m) m<8 dok y′ (b .0, t .2) in
+          (a .0, (refl, a .1 .1 ∙ b .1 .1)),
     )
 
 -- ---- states
@@ -192,5 +197,4 @@ same-reading rs = fun-ext at
 pub deadline-states : (T : ℕ) (m : PlanMeaning) → WellFormed m → DeadlineStates T m
 deadline-states T m ok n< D p rs k e =
     let z : reading rs (m .clocks + 1) ≡ 0 = ap (reading rs) (add-one (m .clocks)) ∙ getD-past rs (m .clocks) 0 (omega arith) in
-    subst (λ u. Same (Route (under T m) D p u k) (TimelyRoute T m D p (reading rs) k) × Same (Distance (under T m) D p u k) (TimelyDistance T m D p (reading rs) k)) (same-reading rs)
-    (deadline-routes T m ok n< D p (reading rs) k z)
+    subst (λ u. Timely T m (under T m) D p (reading rs) u k) (same-reading rs) (deadline-routes T m ok n< D p (reading rs) k z)
