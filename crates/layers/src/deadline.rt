@@ -130,10 +130,7 @@ fn timed_goal(g: Goal, ticks: u32, clocks: usize) -> Goal
         let mut sides = g.area.sides;
         sides[clocks] = Side {
             lower: None,
-            upper: Some(Bound {
-                number: ticks as i32,
-                closed: true,
-            }),
+            upper: Some(Bound::at_most(ticks as i32)),
         };
         Goal {
             position: g.position,

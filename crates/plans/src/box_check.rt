@@ -80,7 +80,7 @@ pub fn check_boxes(boxes: &[ClockBox], clocks: usize) -> Result<(), Refusal>
     for i in 0..boxes.len() {
         match check_box(&boxes[i], clocks) {
             Ok(()) => {}
-            Err(e) => return Err(e),
+            Err(why) => return Err(why),
         }
     }
     Ok(())
