@@ -1,15 +1,13 @@
 -- A stack of both layers, from the laws of each over runs
 use mathlib.Core.Path.{_≡_, refl, sym, ap, subst, _∙_}
 use mathlib.Core.List.{List}
-use Prim.Native.Nat.{ℕ, _+_, _*_, _≤_, _<_}
+use Prim.Native.Nat.{ℕ, _*_, _<_}
 use native.Mathlib.Nat.{mul-zero}
 use native.Mathlib.Omega.{arith}
 use Rattle.zones.specs.declared.boxes.ClockBox.{ClockBox}
-use Rattle.plans.specs.Boxes.{scaled}
 use Rattle.plans.specs.Meaning.{PlanMeaning, WellFormed}
-use Rattle.layers.specs.Restrictions.{restricted, Stays, BoxesFor}
-use Rattle.plans.specs.Routes.{Run, Route, SameWay, Within}
-use Rattle.layers.specs.Deadlines.{deadlined, under}
+use Rattle.layers.specs.Restrictions.{restricted, Stays}
+use Rattle.plans.specs.Routes.{Route, SameWay, Within}
 use Rattle.layers.specs.Theorems.{Matches, MixedRoutes}
 use Rattle.layers.proofs.Timed.{under-is, run-below, run-under}
 use Rattle.layers.proofs.Narrowed.{some-scale, run-out, run-in}

@@ -1,36 +1,34 @@
 -- Runs of a restriction
-use mathlib.Core.Path.{_≡_, refl, sym, ap, subst, _∙_}
-use mathlib.Core.Logic.{_≢_, _⊎_, inl, inr}
-use mathlib.Core.List.{List, [], _∷_}
+use mathlib.Core.Path.{_≡_, refl, sym, ap, subst}
+use mathlib.Core.List.{List}
 use mathlib.Core.Bool.{Bool, true, false, cond, _&&_, _||_, not}
-use Prim.Native.Nat.{ℕ, zero, suc, _+_, _-_, _*_, _≤_, _<_}
+use Prim.Native.Nat.{ℕ, suc, _-_, _*_, _≤_, _<_}
 use native.Mathlib.Decide.{decLt}
 use native.Mathlib.Nat.{mul-le-mul-right, one-mul}
 use native.Mathlib.Omega.{arith}
 use borrow.Author.Differences.{ints}
-use lib.IntN.{ℤ, pos, negℤ, _-ℤ_, _+ℤ_}
-use lib.Signed.{_<ℤ_, _≤ℤ_, ltZ, leZ}
-use lib.ListN.{length, getD}
+use lib.IntN.{ℤ, pos, negℤ, _-ℤ_}
+use lib.Signed.{ltZ, leZ}
+use lib.ListN.{length}
 use Rattle.std.specs.declared.option.Option.{Option}
 use Rattle.std.specs.declared.option.Option.the-variants.{Some, None}
 use Rattle.bounds.specs.declared.bound.Bound.{Bound}
-use Rattle.bounds.specs.Bounds.{UpperBound, none, upto, Meets, Tight, bit}
+use Rattle.bounds.specs.Bounds.{upto, Meets, Tight}
 use Rattle.bounds.specs.Sums.{bound-of}
 use Rattle.bounds.specs.Laws.{meets-looser}
 use Rattle.zones.specs.declared.boxes.Side.{Side}
 use Rattle.zones.specs.declared.boxes.ClockBox.{ClockBox}
-use Rattle.plans.specs.declared.rows.Position.{Position}
-use Rattle.plans.specs.Boxes.{InSide, blank, side, InBox, later, reset, BoxOf}
-use Rattle.zones.specs.Boxes.{turned, no-side}
-use Rattle.plans.specs.Meaning.{PlanMeaning, WellFormed, no-position, no-box, position-at, move-at, invariant-of, cause-of, outcome-at, goal-at}
+use Rattle.plans.specs.Boxes.{InSide, side, InBox, later, reset, BoxOf}
+use Rattle.zones.specs.Boxes.{turned}
+use Rattle.plans.specs.Meaning.{PlanMeaning, WellFormed, invariant-of, cause-of, outcome-at, goal-at}
 use Rattle.plans.specs.Items.{Names}
-use Rattle.layers.specs.Narrowing.{below, above, lowest, highest, both, narrow-sides, narrow-box}
-use Rattle.layers.specs.Restrictions.{narrowed, restricted, box-of, BoxesFor, Stays}
-use Rattle.plans.specs.Routes.{Waits, Reaches, Crosses, Run, Course, course, Route, SameWay}
+use Rattle.layers.specs.Narrowing.{below, above, lowest, highest, both, narrow-box}
+use Rattle.layers.specs.Restrictions.{restricted, box-of, BoxesFor, Stays}
+use Rattle.plans.specs.Routes.{Run, course}
 use Rattle.plans.specs.Routes.Course.{goes}
 use Rattle.plans.specs.Routes.Run.{last, first}
 use Rattle.layers.specs.LayersSound.{narrow-at, narrow-past, narrowed-at}
-use Rattle.layers.specs.Theorems.{Matches, RestrictedRuns, RestrictedRoutes}
+use Rattle.layers.specs.Theorems.{RestrictedRuns, RestrictedRoutes}
 use Rattle.bounds.specs.Logic.{Iff}
 use Rattle.layers.proofs.Timed.{in-free}
 

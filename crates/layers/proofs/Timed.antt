@@ -1,33 +1,30 @@
 -- Runs under a deadline
 use mathlib.Core.Path.{_≡_, refl, sym, ap, subst, _∙_, fun-ext}
-use mathlib.Core.Logic.{_≢_, _⊎_, inl, inr, ∥∥₁-map}
-use mathlib.Core.List.{List, [], _∷_, _++_, map}
-use mathlib.Core.Bool.{Bool, true, false, cond, _&&_}
+use mathlib.Core.Logic.{_≢_, inl, inr, ∥∥₁-map}
+use mathlib.Core.List.{List, [], _∷_, _++_}
+use mathlib.Core.Bool.{true, cond, _&&_}
 use Prim.Native.Nat.{ℕ, zero, suc, _+_, _-_, _*_, _≤_, _<_}
-use native.Mathlib.Nat.{mul-comm, mul-zero}
+use native.Mathlib.Nat.{mul-zero}
 use native.Mathlib.Numerals.{add-one}
 use native.Mathlib.Omega.{arith}
-use borrow.Author.Differences.{ints, up, down}
+use borrow.Author.Differences.{ints}
 use borrow.Author.Tests.{lt-ltb}
-use lib.Dec.{ltb}
-use lib.IntN.{ℤ, pos, _-ℤ_, _*ℤ_}
-use lib.Signed.{_≤ℤ_}
-use lib.ListN.{length, getD, set, length-map}
+use lib.IntN.{pos}
+use lib.ListN.{length, getD, length-map}
 use lib.Seq.{getD-set-same, getD-set-other}
 use Rattle.std.proofs.shelf.Lists.{getD-map, getD-past}
 use Rattle.std.specs.declared.option.Option.{Option}
 use Rattle.std.specs.declared.option.Option.the-variants.{Some, None}
 use Rattle.bounds.specs.declared.bound.Bound.{Bound}
-use Rattle.bounds.specs.Bounds.{UpperBound, none, upto, Meets}
-use Rattle.bounds.specs.Sums.{bound-of}
+use Rattle.bounds.specs.Bounds.{Meets}
 use Rattle.bounds.specs.Laws.{times-is}
 use Rattle.zones.specs.declared.boxes.Side.{Side}
 use Rattle.zones.specs.declared.boxes.ClockBox.{ClockBox}
 use Rattle.plans.specs.declared.rows.Goal.{Goal}
-use Rattle.plans.specs.Boxes.{InSide, absent, blank, side, InBox, later, reset, scaled, BoxOf}
+use Rattle.plans.specs.Boxes.{InSide, absent, blank, side, InBox, later, reset, BoxOf}
 use Rattle.zones.specs.Boxes.{turned, no-side}
 use Rattle.plans.specs.Meaning.{PlanMeaning, WellFormed, no-goal, outcome-at, goal-at}
-use Rattle.plans.specs.Routes.{Waits, Reaches, Crosses, Run, Course, course, Route, SameWay, Within, TimelyRoute, Distance, TimelyDistance}
+use Rattle.plans.specs.Routes.{Reaches, Crosses, Run, course, Route, SameWay, Within, TimelyRoute}
 use Rattle.plans.specs.Routes.Course.{goes}
 use Rattle.plans.specs.Routes.Run.{last, first}
 use Rattle.layers.specs.Deadlines.{by-then, timed-box, timed, deadlined, under}

@@ -1,10 +1,9 @@
 -- The goals of a deadline, asked for by item
 use mathlib.Core.Path.{_≡_, refl, sym, ap, _∙_, subst}
-use mathlib.Core.List.{List, map}
-use mathlib.Core.Bool.{Bool, true, false, cond}
-use Prim.Native.Nat.{ℕ, _-_, _<_}
+use mathlib.Core.Bool.{true, false, cond}
+use Prim.Native.Nat.{ℕ, _-_}
 use lib.Dec.{ltb}
-use lib.ListN.{length, getD, length-map, List·getD-map}
+use lib.ListN.{length, length-map, List·getD-map}
 use Rattle.std.specs.declared.result.Result.the-variants.{Ok, Err}
 use Rattle.bounds.specs.declared.refusal.Refusal.{Refusal}
 use Rattle.plans.specs.declared.rows.Goal.{Goal}

@@ -1,19 +1,16 @@
 -- Well formed meanings: one proof at most, and kept by every layer.
 use mathlib.Core.Path.{_≡_, refl, sym, ap, subst, _∙_}
-use mathlib.Core.Logic.{_≢_, _⊎_, inl, inr, ∥∥₁-elim, ∥∥₁-prop}
-use mathlib.Core.List.{List, [], _∷_, map}
-use mathlib.Core.Bool.{Bool, true, false, cond, _&&_, Bool-set}
-use mathlib.Core.HLevel.{hedberg, Π-prop, ×-prop, →-prop, Unit-prop}
-use Prim.Native.Nat.{ℕ, zero, suc, _+_, _-_, _*_, _≤_, _<_}
-use native.Mathlib.Bridge.{le-prop}
-use native.Mathlib.Decide.{decLt, ℕ-discrete}
+use mathlib.Core.Logic.{_≢_, _⊎_, inl, inr, ∥∥₁-elim}
+use mathlib.Core.List.{List, [], _∷_}
+use mathlib.Core.Bool.{Bool, true, false, cond}
+use mathlib.Core.HLevel.{Π-prop, ×-prop, →-prop}
+use Prim.Native.Nat.{ℕ, zero, suc, _+_, _-_, _≤_, _<_}
+use native.Mathlib.Decide.{decLt}
 use native.Mathlib.Omega.{arith}
 use borrow.Author.Differences.{ints}
 use borrow.Author.Tests.{ltb-true}
-use lib.Dec.{ltb, T-prop}
-use lib.IntN.{ℤ, pos}
-use lib.Signed.{_≤ℤ_}
-use lib.ListN.{length, getD, set, length-map, length-set}
+use lib.Dec.{ltb}
+use lib.ListN.{length, getD, length-map, length-set}
 use lib.Seq.{getD-set-same, getD-set-other}
 use Rattle.std.proofs.shelf.Lists.{getD-map, getD-past}
 use Rattle.std.specs.declared.option.Option.{Option}
@@ -21,12 +18,11 @@ use Rattle.std.specs.declared.option.Option.the-variants.{Some, None}
 use Rattle.bounds.specs.declared.bound.Bound.{Bound}
 use Rattle.zones.specs.declared.boxes.Side.{Side}
 use Rattle.zones.specs.declared.boxes.ClockBox.{ClockBox}
-use Rattle.plans.specs.declared.rows.Outcome.{Outcome}
 use Rattle.plans.specs.declared.rows.Goal.{Goal}
-use Rattle.plans.specs.Boxes.{absent, blank, side, InRange, BoxOf}
+use Rattle.plans.specs.Boxes.{blank, side, InRange, BoxOf}
 use Rattle.zones.specs.Boxes.{no-side}
 use Rattle.plans.specs.Sound.{in-range-prop}
-use Rattle.plans.specs.Meaning.{PlanMeaning, WellFormed, OutcomeOf, no-goal, no-box, no-position, position-at, move-at, outcome-at, goal-at}
+use Rattle.plans.specs.Meaning.{PlanMeaning, WellFormed, no-goal, no-box, no-position, position-at, move-at, outcome-at, goal-at}
 use Rattle.plans.specs.Items.{Names}
 use Rattle.layers.specs.Narrowing.{below, above, lowest, highest, both, narrow-sides, narrow-box}
 use Rattle.layers.specs.Restrictions.{narrowed, restricted}

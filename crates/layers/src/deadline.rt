@@ -1,6 +1,6 @@
 ghost use mathlib.Core.Path.{_≡_};
 ghost use mathlib.Core.Bool.{cond};
-ghost use Prim.Native.Nat.{ℕ, _<_, _≤_};
+ghost use Prim.Native.Nat.{_<_, _≤_};
 ghost use lib.Dec.{ltb};
 ghost use Rattle.std.specs.Results.{Cases as ByOk};
 ghost use Rattle.layers.specs.Deadlines.{timed, under, DeadlineMeans, DeadlineRefused};

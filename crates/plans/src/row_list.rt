@@ -5,7 +5,7 @@ ghost use lib.ListN.{length, set};
 ghost use denote.Ref.{now, name};
 ghost use Rattle.std.specs.Orderings.{Decides};
 ghost use Rattle.plans.specs.Items.{Item, Names};
-ghost use Rattle.plans.specs.RowLists.{Kept, kept, taken, emptied, PushSays, SetSays, AddSays, move-row, raised, changed};
+ghost use Rattle.plans.specs.RowLists.{kept, taken, emptied, PushSays, SetSays, AddSays, move-row, raised, changed};
 use super::rows::Move;
 use bounds::refusal::Refusal;
 

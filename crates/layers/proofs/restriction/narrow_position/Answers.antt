@@ -1,4 +1,3 @@
-use native.Mathlib.Omega.{arith}
 use Rattle.layers.proofs.Steps.{narrow-absent}
 use Rattle.layers.proofs.restriction.narrow_position.Needs as need
 

@@ -1,5 +1,5 @@
 use mathlib.Core.Path.{_≡_, refl, ap}
-use mathlib.Core.Logic.{inl, inr}
+use mathlib.Core.Logic.{inr}
 use native.Mathlib.Omega.{arith}
 use Rattle.plans.specs.declared.rows.Move.{Move}
 use Prim.Native.Nat.{ℕ}
