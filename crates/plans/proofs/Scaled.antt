@@ -11,7 +11,7 @@ use lib.ListN.{getD}
 use Rattle.bounds.specs.Bounds.{Meets}
 use Rattle.bounds.specs.Sums.{bound-of}
 use Rattle.bounds.specs.Laws.{times-is, times-plus}
-use Rattle.bounds.proofs.Scales.{meets-up}
+use Rattle.bounds.proofs.Scales.{meets-up, meets-down}
 use Rattle.zones.specs.declared.boxes.Side.{Side}
 use Rattle.zones.specs.declared.boxes.ClockBox.{ClockBox}
 use Rattle.plans.specs.Boxes.{InSide, side, InBox, later, reset, scaled}
@@ -45,17 +45,31 @@ scaled-one v = fun-ext (λ k. one-mul (v k))
 
 -- ---- boxes
 module _ (j D : ℕ) (some : 1 ≤ j) where
-  side-up : (r : ℕ) (s : Side) → InSide D r s → InSide (j * D) (j * r) s
-  side-up r s h =
-      let a : pos r *ℤ pos j ≡ pos (j * r) = omega (arith, ints, times-is (pos r) j, mul-comm r j) in
+  up-is : (r : ℕ) → pos r *ℤ pos j ≡ pos (j * r)
+  up-is r = omega (arith, ints, times-is (pos r) j, mul-comm r j)
+
+  down-is : (r : ℕ) → (pos 0 -ℤ pos r) *ℤ pos j ≡ pos 0 -ℤ pos (j * r)
+  down-is r =
       let z : (pos 0 -ℤ pos r) +ℤ pos r ≡ pos 0 = omega (arith, ints) in
-      let b : (pos 0 -ℤ pos r) *ℤ pos j ≡ pos 0 -ℤ pos (j * r) = omega (arith, ints, a, times-plus (pos 0 -ℤ pos r) (pos r) j, ap (λ x. x *ℤ pos j) z, times-is (pos 0) j) in (
-        subst (λ d. Meets (j * D) d (bound-of (s .upper))) a (meets-up j D some (pos r) (bound-of (s .upper)) (h .0)),
-        subst (λ d. Meets (j * D) d (turned (bound-of (s .lower)))) b (meets-up j D some (pos 0 -ℤ pos r) (turned (bound-of (s .lower))) (h .1)),
-      )
+      omega (arith, ints, up-is r, times-plus (pos 0 -ℤ pos r) (pos r) j, ap (λ x. x *ℤ pos j) z, times-is (pos 0) j)
+
+  side-up : (r : ℕ) (s : Side) → InSide D r s → InSide (j * D) (j * r) s
+  side-up r s h = (
+    subst (λ d. Meets (j * D) d (bound-of (s .upper))) (up-is r) (meets-up j D some (pos r) (bound-of (s .upper)) (h .0)),
+    subst (λ d. Meets (j * D) d (turned (bound-of (s .lower)))) (down-is r) (meets-up j D some (pos 0 -ℤ pos r) (turned (bound-of (s .lower))) (h .1)),
+  )
+
+  side-down : (r : ℕ) (s : Side) → InSide (j * D) (j * r) s → InSide D r s
+  side-down r s h = (
+    meets-down j D some (pos r) (bound-of (s .upper)) (subst (λ d. Meets (j * D) d (bound-of (s .upper))) (sym (up-is r)) (h .0)),
+    meets-down j D some (pos 0 -ℤ pos r) (turned (bound-of (s .lower))) (subst (λ d. Meets (j * D) d (turned (bound-of (s .lower)))) (sym (down-is r)) (h .1)),
+  )
 
   pub box-up : (b : ClockBox) (v : ℕ → ℕ) → InBox b D v → InBox b (j * D) (scaled j v)
   box-up b v h i i< = side-up (v (suc i)) (side b i) (h i i<)
+
+  pub box-down : (b : ClockBox) (v : ℕ → ℕ) → InBox b (j * D) (scaled j v) → InBox b D v
+  box-down b v h i i< = side-down (v (suc i)) (side b i) (h i i<)
 
   -- ---- steps
   module _ (m : PlanMeaning) (p : ℕ) (v : ℕ → ℕ) where

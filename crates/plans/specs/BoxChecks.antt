@@ -13,6 +13,7 @@ use Rattle.plans.specs.Boxes.{blank, InRange, BoxOf}
 use Rattle.zones.specs.Boxes.{no-side}
 use Rattle.plans.specs.Meaning.{no-box}
 
+-- both numbers of a side are in range
 abbrev pub SideInRange : Side → Type 0
 SideInRange s = InRange (s .lower) × InRange (s .upper)
 
@@ -28,6 +29,7 @@ Free n ss = (i : ℕ) → i < length ss → n ≤ i → blank (getD ss i no-side
 abbrev pub Wrong : ℕ → ClockBox → Refusal → Type 0
 Wrong n b e = ((Numbers (b .sides) → ⊥) × (e ≡ refused.Number)) ⊎ (Numbers (b .sides) × (Free n (b .sides) → ⊥) × (e ≡ refused.Name))
 
+-- the first k boxes are fine
 abbrev pub AllBoxes : ℕ → List ClockBox → ℕ → Type 0
 AllBoxes n bs k = (j : ℕ) → j < k → BoxOf n (getD bs j no-box)
 

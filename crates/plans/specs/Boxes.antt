@@ -23,7 +23,7 @@ InSide D r s = Meets D (pos r) (bound-of (s .upper)) × Meets D (pos 0 -ℤ pos 
 abbrev pub side : ClockBox → ℕ → Side
 side b i = getD (b .sides) i no-side
 
--- the readings v, by clock, lie in the box at the scale D
+-- the readings v, by clock, lie in the box at the scale D; clock 0 is not looked at
 abbrev pub InBox : ClockBox → ℕ → (ℕ → ℕ) → Type 0
 InBox b D v = (i : ℕ) → i < 8 → InSide D (v (suc i)) (side b i)
 
@@ -40,11 +40,11 @@ reset rs v (suc i) = cond (getD rs i false) 0 (v (suc i))
 abbrev pub scaled : ℕ → (ℕ → ℕ) → ℕ → ℕ
 scaled j v i = j * v i
 
--- the side asks nothing
 abbrev pub absent : Option Bound → Bool
 absent None = true
 absent (Some b) = false
 
+-- the side asks nothing
 abbrev pub blank : Side → Bool
 blank s = absent (s .lower) && absent (s .upper)
 

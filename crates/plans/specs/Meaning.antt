@@ -27,6 +27,7 @@ pub record PlanMeaning : Type 0 where
   pub outcomes : List Outcome
   pub goals : List Goal
 
+-- what stands past the end of a list
 abbrev pub no-box : ClockBox
 no-box = record { sides = [] }
 

@@ -16,6 +16,7 @@ pub record Kept (R : Type 0) : Type 0 where
   pub rows : List R
   pub used : ℕ
 
+-- a row list, without the reference
 abbrev pub kept : {R : Type 0} → RowList R → Kept R
 kept l = record { rows = l .rows .now; used = l .used }
 

@@ -13,6 +13,7 @@ use Rattle.plans.specs.Meaning.{PlanMeaning, WellFormed}
 use Rattle.plans.specs.RowChecks.{RowsFine}
 use Rattle.plans.specs.Sound.{well}
 
+-- the rows as a meaning
 abbrev pub tabled : (ℕ → Bool) → (UpperBound → UpperBound) → ℕ → List Position → List Move → List Outcome → List Goal → PlanMeaning
 tabled a nf n ps vs os gs = record { allows = a; normal = nf; clocks = n; positions = ps; moves = vs; outcomes = os; goals = gs }
 
@@ -35,6 +36,7 @@ well-formed a nf n ps vs os gs l f = record {
   sums = f .sums;
 }
 
+-- the same from what a table plan's type keeps
 pub table-sound : (a : ℕ → Bool) (nf : UpperBound → UpperBound) (n : ℕ) (ps : List Position) (vs : List Move) (os : List Outcome) (gs : List Goal)
     → ∥ Lawful a nf ∥₁ → ∥ RowsFine n ps vs os gs ∥₁ → WellFormed (tabled a nf n ps vs os gs)
 table-sound a nf n ps vs os gs l f = well (tabled a nf n ps vs os gs) (∥∥₁-map f (well-formed a nf n ps vs os gs l))

@@ -26,18 +26,21 @@ fn in_range(bound: Option<Bound>) -> bool
     }
 }
 
+// Whether both numbers of a side are in range.
 fn side_in_range(side: Side) -> bool
     ensures { λ r. ⌜ Decides r (SideInRange side) ⌝ }
 {
     in_range(side.lower) && in_range(side.upper)
 }
 
+// Whether a side asks nothing.
 fn is_blank(side: Side) -> bool
     ensures { λ r. ⌜ r ≡ blank side ⌝ }
 {
     side.lower.is_none() && side.upper.is_none()
 }
 
+// Whether every number is in range.
 fn numbers_fit(sides: &[Side]) -> bool
     ensures { λ r. ⌜ Decides r (Numbers (now (sides .entry))) ⌝ }
 {
@@ -49,6 +52,7 @@ fn numbers_fit(sides: &[Side]) -> bool
     true
 }
 
+// Whether nothing is asked of a clock above the count.
 fn clocks_fit(sides: &[Side], clocks: usize) -> bool
     ensures { λ r. ⌜ Decides r (Free clocks (now (sides .entry))) ⌝ }
 {

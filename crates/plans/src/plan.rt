@@ -12,10 +12,13 @@ use bounds::time::TimeDomain;
 
 // A plan: a time domain, a clock count and four lists, asked for by item, from 1.
 pub trait Plan {
+    // Its time domain.
     type Time: TimeDomain + Copy;
 
+    // What the plan means: all that its calls answer from.
     ghost meaning: { Self → PlanMeaning };
 
+    // Every name exists, every number is in range, and each move's chances add up to 1000.
     ghost sound: { (p : Self) → WellFormed (meaning p) };
 
     fn time(&self) -> Self::Time
@@ -50,7 +53,7 @@ pub trait Plan {
         ensures { λ r. ⌜ Item (meaning (now (self .entry)) .goals) k r ⌝ };
 }
 
-// Whether a state may be written at the scale.
+// Whether a state of the plan may be written at the scale. That the scale may change along a route adds no route.
 pub fn allows_scale<P: Plan>(plan: &P, scale: u32) -> bool
     ensures is { λ r. ⌜ r ≡ P·Plan .meaning (now (plan .entry)) .allows scale ⌝ }
     ensures routes { λ r. ⌜ OneScale (P·Plan .meaning (now (plan .entry))) ⌝ }

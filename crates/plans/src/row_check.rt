@@ -18,12 +18,14 @@ use super::rows::Position;
 use bounds::refusal::Refusal;
 use zones::boxes::ClockBox;
 
+// Whether the name is one of those from 1 to the count.
 fn named(count: usize, name: usize) -> bool
     ensures { λ r. ⌜ Decides r (Names count name) ⌝ }
 {
     name >= 1 && name <= count
 }
 
+// Refuses a box at a position: by Number, and then by Name.
 fn check_placed(b: &ClockBox, name: usize, count: usize, clocks: usize) -> Result<(), Refusal>
     ensures { λ r. ⌜ ByOk r (λ _. Names count name × BoxOf clocks (now (b .entry))) (λ e. PlacedWrong clocks count name (now (b .entry)) e) ⌝ }
 {
@@ -39,6 +41,7 @@ fn check_placed(b: &ClockBox, name: usize, count: usize, clocks: usize) -> Resul
     }
 }
 
+// Whether no clock above the count is reset.
 fn resets_fit(resets: &[bool], clocks: usize) -> bool
     ensures { λ r. ⌜ Decides r (NoResets clocks (now (resets .entry))) ⌝ }
 {

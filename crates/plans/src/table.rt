@@ -28,6 +28,7 @@ pub struct TablePlan<'a, T> {
 }
 
 impl<'a, T: TimeDomain + Copy> TablePlan<'a, T> {
+    // The row check, and then the plan that the rows are.
     pub fn new(
         time: T,
         clocks: usize,
@@ -52,6 +53,7 @@ impl<'a, T: TimeDomain + Copy> TablePlan<'a, T> {
     }
 }
 
+// Row k, from 1.
 fn item<R: Copy>(rows: &[R], k: usize) -> Result<R, Refusal>
     ensures { λ r. ⌜ Item (now (rows .entry)) k r ⌝ }
 {
