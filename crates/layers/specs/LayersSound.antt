@@ -1,4 +1,4 @@
--- Well formed meanings: one proof at most, and kept by every layer.
+-- Every layer over a well formed meaning is well formed.
 use mathlib.Core.Path.{_≡_, refl, sym, ap, subst, _∙_}
 use mathlib.Core.Logic.{_≢_, _⊎_, inl, inr, ∥∥₁-elim}
 use mathlib.Core.List.{List, [], _∷_}
