@@ -281,10 +281,10 @@ fn of_domain<T: TimeDomain>(codes: &[Code; 81], time: &T) -> bool
     requires { ⌜ Sound (now codes) ⌝ }
     ensures { λ r. ⌜ (r ≡ true → OfDomain (normal (now (time .entry))) (now (codes .entry))) × (OfDomain (normal (now (time .entry))) (now (codes .entry)) → r ≡ true) ⌝ }
 {
+    // No early return: the loop then runs several codes at a time.
+    let mut every = true;
     for p in 0..81 {
-        if !normal_code(codes[p], time) {
-            return false;
-        }
+        every = every & normal_code(codes[p], time);
     }
-    true
+    every
 }
