@@ -105,7 +105,7 @@ fn over_rows<'a, T: TimeDomain + Copy>(
 fn under_deadline<P: Plan + Drop>(rt: &LibcRuntime, plan: P) -> Result<(), AnyError> {
     match Deadline::new(plan, 6) {
         Ok(timed) => play_back(rt, &timed),
-        Err(why) => Err(told(why).into()),
+        Err(refused) => Err(told(refused.refusal).into()),
     }
 }
 
