@@ -6,6 +6,7 @@ ghost use Rattle.std.specs.Results.{Cases as ByOk};
 ghost use Rattle.layers.specs.Deadlines.{timed, under, DeadlineMeans, DeadlineRefused};
 ghost use Rattle.layers.specs.LayersSound.{under-sound};
 ghost use Rattle.layers.specs.Theorems.{DeadlineRuns, DeadlineRoutes, DeadlineStates, StackedRoutes, MixedRoutes};
+use super::refused::NotLaid;
 use super::restriction::PlanOfRestriction;
 use super::restriction::Restriction;
 use bounds::bound::Bound;
@@ -28,16 +29,20 @@ pub struct Deadline<P: Plan> {
 
 impl<P: Plan> Deadline<P> {
     // Refuses more than 1,000,000 ticks by Number, and then a plan that has eight clocks by Clocks.
-    pub fn new(below: P, ticks: u32) -> Result<Deadline<P>, Refusal>
-    where
-        P: Drop,
-        ensures { λ r. ⌜ ByOk r (λ d. (d .below ≡ below) × (d .ticks ≡ ticks) × DeadlineMeans ticks (P·Plan .meaning below)) (λ e. DeadlineRefused ticks (P·Plan .meaning below) e) ⌝ }
+    pub fn new(below: P, ticks: u32) -> Result<Deadline<P>, NotLaid<P>>
+        ensures { λ r. ⌜ ByOk r (λ d. (d .below ≡ below) × (d .ticks ≡ ticks) × DeadlineMeans ticks (P·Plan .meaning below)) (λ e. (e .below ≡ below) × DeadlineRefused ticks (P·Plan .meaning below) (e .refusal)) ⌝ }
     {
         if ticks > 1_000_000 {
-            return Err(Refusal::Number);
+            return Err(NotLaid {
+                refusal: Refusal::Number,
+                below,
+            });
         }
         if below.clocks() >= 8 {
-            return Err(Refusal::Clocks);
+            return Err(NotLaid {
+                refusal: Refusal::Clocks,
+                below,
+            });
         }
         Ok(Deadline { below, ticks })
     }

@@ -9,6 +9,7 @@ ghost use Rattle.layers.specs.Restrictions.{restricted, RestrictionRefused, Bo
 ghost use Rattle.layers.specs.LayersSound.{Fine, fine, restricted-sound};
 ghost use Rattle.layers.specs.Theorems.{RestrictedRuns, RestrictedRoutes};
 use super::narrowing::narrow;
+use super::refused::NotLaid;
 use bounds::refusal::Refusal;
 use plans::box_check::check_boxes;
 use plans::plan::Plan;
@@ -28,17 +29,18 @@ pub struct Restriction<'a, P: Plan> {
 
 impl<'a, P: Plan> Restriction<'a, P> {
     // Refuses another count of boxes than of positions, and then the first wrong box.
-    pub fn new(below: P, boxes: &'a [ClockBox]) -> Result<Restriction<'a, P>, Refusal>
-    where
-        P: Drop,
-        ensures { λ r. ⌜ ByOk r (λ d. (d .below ≡ below) × (now (d .boxes) ≡ now (boxes .entry)) × BoxesFor (P·Plan .meaning below) (now (boxes .entry))) (λ e. RestrictionRefused (P·Plan .meaning below) (now (boxes .entry)) e) ⌝ }
+    pub fn new(below: P, boxes: &'a [ClockBox]) -> Result<Restriction<'a, P>, NotLaid<P>>
+        ensures { λ r. ⌜ ByOk r (λ d. (d .below ≡ below) × (now (d .boxes) ≡ now (boxes .entry)) × BoxesFor (P·Plan .meaning below) (now (boxes .entry))) (λ e. (e .below ≡ below) × RestrictionRefused (P·Plan .meaning below) (now (boxes .entry)) (e .refusal)) ⌝ }
     {
         if boxes.len() != below.positions() {
-            return Err(Refusal::Rows);
+            return Err(NotLaid {
+                refusal: Refusal::Rows,
+                below,
+            });
         }
         match check_boxes(boxes, below.clocks()) {
             Ok(()) => Ok(Restriction { below, boxes }),
-            Err(e) => Err(e),
+            Err(refusal) => Err(NotLaid { refusal, below }),
         }
     }
 

@@ -18,7 +18,7 @@ use Rattle.bounds.specs.Sums.{Vast}
 use Rattle.bounds.specs.Domains.{Alike}
 use Rattle.zones.specs.Matrices.{tighter, Canon, Holds, cut-at}
 use Rattle.zones.specs.Codes.{Near, Sound, code-plus, code-cut, decode, at, code-of}
-use Rattle.zones.specs.Cuts.{OfDomain, Left, Far, Over, Beyond}
+use Rattle.zones.specs.Cuts.{OfDomain, Left, Far, Over, Beyond, CodeOf, Fit, CutOver, CutEmpty, CutKept}
 use Rattle.bounds.specs.Laws.{tight-same, tight-refl, tight-total}
 use Rattle.zones.proofs.Canon.{cut-canon, cut-holds, cut-back, cut-empty}
 use Rattle.zones.proofs.CodeFacts.{near-plus, near-more}
@@ -154,6 +154,38 @@ module _ {allows : ℕ → Bool} {normal : UpperBound → UpperBound} (K : Scale
     where
       cut-le : (p : ℕ) → p < 81 → code-cut xs i j c p ≤ 4294967295
       cut-le p h = omega (arith, s .near p h .1)
+
+-- what a fit cut by a bound with the code c answers
+module _ {allows : ℕ → Bool} {normal : UpperBound → UpperBound} (K : ScaleLaws allows normal) (xs : List Code) (s : Sound xs) (i j : ℕ) (b : UpperBound)
+    (fit : Fit normal i j b xs) (c : ℕ) (code : CodeOf (normal b) c) where
+  pub cut-empties : code-plus (code-of xs (9 * j + i)) c < 33554433 → CutEmpty allows normal i j b xs xs
+  cut-empties h = record {
+    fit = fit;
+    gone = none-left K xs s (fit .of-domain) i j (fit .row) (fit .column) b c (code .near) (code .is) h;
+    unchanged = refl;
+  }
+
+  module _ (some : 33554433 ≤ code-plus (code-of xs (9 * j + i)) c) where
+    pub cut-overs : ((p : ℕ) × (p < 81) × (Near 4000000 (code-cut xs i j c p) → ⊥)) → CutOver allows normal i j b xs xs
+    cut-overs o = record {
+      fit = fit;
+      some = some-left K xs s (fit .of-domain) i j (fit .row) (fit .column) b c (code .near) (code .is) some;
+      over = over K xs s (fit .of-domain) i j (fit .row) (fit .column) b c (code .near) (code .is) o;
+      unchanged = refl;
+    }
+
+    module _ (ys : List Code) (is : (p : ℕ) → p < 81 → (code-of ys p ≡ code-cut xs i j c p) × Near 4000000 (code-cut xs i j c p)) where
+      pub cut-sound : Sound ys
+      cut-sound = still-sound K xs s (fit .of-domain) i j (fit .row) (fit .column) b c (code .near) (code .is) some ys is
+
+      pub cut-keeps : CutKept allows normal i j b xs ys
+      cut-keeps = record {
+        fit = fit;
+        in-range = not-over K xs s (fit .of-domain) i j (fit .row) (fit .column) b c (code .near) (code .is) some ys is;
+        of-domain = still-kept K xs s (fit .of-domain) i j (fit .row) (fit .column) b c (code .near) (code .is) some ys is;
+        bounds = at-is K xs s (fit .of-domain) i j (fit .row) (fit .column) b c (code .near) (code .is) some ys is;
+        states = exact K xs s (fit .of-domain) i j (fit .row) (fit .column) b c (code .near) (code .is) some ys is;
+      }
 
 pub not-beyond : (s : Bool) (n : ℤ) → negsuc 999999 ≤ℤ n → n ≤ℤ pos 1000000 → Beyond (upto s n) → ⊥
 unfolding Beyond

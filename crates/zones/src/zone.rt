@@ -10,7 +10,7 @@ ghost use Rattle.bounds.specs.Logic.{Iff};
 ghost use Rattle.bounds.specs.Domains.{scales, hand-allows};
 ghost use Rattle.zones.specs.Codes.{Sound, Near, at, decode, code-all, code-of};
 ghost use Rattle.zones.specs.Matrices.{Holds};
-ghost use Rattle.zones.specs.Cuts.{CutSays, OfDomain};
+ghost use Rattle.zones.specs.Cuts.{CodeOf, CutSays, Fit, OfDomain};
 ghost use Rattle.zones.specs.Boxes.{BoxSays};
 ghost use Rattle.zones.specs.Calls.{BackSays, WithinSays, HoldsSays, UndoSays, HasState, AllSays, BoundSays};
 use crate::back::backed;
@@ -93,6 +93,7 @@ impl Zone {
         }
     }
 
+    // The cut by no bound, which changes nothing.
     fn cut_by_none<T: TimeDomain>(&mut self, time: &T, i: usize, j: usize) -> Result<Cut, Refusal>
         ensures { λ r. ⌜ CutSays (scales (allows (now (time .entry)))) (normal (now (time .entry))) i j none (now (self .entry) .codes) (now (self .exit) .codes) r ⌝ }
     {
@@ -105,6 +106,7 @@ impl Zone {
         Ok(Cut::Kept)
     }
 
+    // The cut by a bound.
     fn cut_by<T: TimeDomain>(
         &mut self,
         time: &T,
@@ -125,19 +127,32 @@ impl Zone {
         }
         match time.normal_form(bound) {
             Err(why) => Err(why),
-            Ok(t) => {
-                let c = coded(t);
-                if joined(self.codes[9 * j + i], c).0 < LEVEL.0 {
-                    return Ok(Cut::Empty);
-                }
-                match tightened(&self.codes, i, j, c) {
-                    Some(next) => {
-                        self.codes = next;
-                        Ok(Cut::Kept)
-                    }
-                    None => Err(Refusal::Range),
-                }
+            Ok(t) => self.tighten(time, i, j, bound, coded(t)),
+        }
+    }
+
+    // The cut at (i, j) by a bound, given the code of its normal form.
+    fn tighten<T: TimeDomain>(
+        &mut self,
+        time: &T,
+        i: usize,
+        j: usize,
+        bound: Bound,
+        code: Code,
+    ) -> Result<Cut, Refusal>
+        requires fit { ⌜ Fit (normal (now time)) i j (upto (bound .closed) (bound .number)) (now self .codes) ⌝ }
+        requires code { ⌜ CodeOf (normal (now time) (upto (bound .closed) (bound .number))) (code .0) ⌝ }
+        ensures { λ r. ⌜ CutSays (scales (allows (now (time .entry)))) (normal (now (time .entry))) i j (upto (bound .closed) (bound .number)) (now (self .entry) .codes) (now (self .exit) .codes) r ⌝ }
+    {
+        if joined(self.codes[9 * j + i], code).0 < LEVEL.0 {
+            return Ok(Cut::Empty);
+        }
+        match tightened(&self.codes, i, j, code) {
+            Some(next) => {
+                self.codes = next;
+                Ok(Cut::Kept)
             }
+            None => Err(Refusal::Range),
         }
     }
 
@@ -266,10 +281,10 @@ fn of_domain<T: TimeDomain>(codes: &[Code; 81], time: &T) -> bool
     requires { ⌜ Sound (now codes) ⌝ }
     ensures { λ r. ⌜ (r ≡ true → OfDomain (normal (now (time .entry))) (now (codes .entry))) × (OfDomain (normal (now (time .entry))) (now (codes .entry)) → r ≡ true) ⌝ }
 {
+    // No early return: the loop then runs several codes at a time.
+    let mut every = true;
     for p in 0..81 {
-        if !normal_code(codes[p], time) {
-            return false;
-        }
+        every = every & normal_code(codes[p], time);
     }
-    true
+    every
 }
