@@ -174,7 +174,7 @@ stacked-routes S T m t≤ ok n< D p v k z y =
       λ t.
           let b = route-under T D p v k m n<8 ok z′ (t .0, t .1) in
           let a = route-under S D p v k (deadlined T m) m<8 dok y′ (b .0, t .2) in
-          (a .0, (refl, a .1 .1 ∙ b .1 .1)),
+          (a .0, (refl, _∙_ {a = course (a .0 .run)} {b = course (b .0 .run)} {c = course (t .0 .run)} (a .1 .1) (b .1 .1))),
     )
 
 -- ---- states

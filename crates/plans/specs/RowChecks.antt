@@ -5,6 +5,8 @@ use mathlib.Core.List.{List}
 use mathlib.Core.Bool.{Bool, false}
 use Prim.Native.Nat.{ℕ, _+_, _≤_, _<_}
 use lib.ListN.{length, getD}
+use Rattle.std.specs.declared.result.Result.{Result}
+use Rattle.std.specs.declared.result.Result.the-variants.{Ok, Err}
 use Rattle.bounds.specs.declared.refusal.Refusal.{Refusal}
 use Rattle.bounds.specs.declared.refusal.Refusal.the-variants as refused
 use Rattle.zones.specs.declared.boxes.ClockBox.{ClockBox}
@@ -29,6 +31,7 @@ CountWrong p m o g list.Moves = Names 64 p × (256 < m)
 CountWrong p m o g list.Outcomes = Names 64 p × (m ≤ 256) × (512 < o)
 CountWrong p m o g list.Goals = Names 64 p × (m ≤ 256) × (o ≤ 512) × (64 < g)
 
+-- the counts of rows that a plan may have
 pub record Counts (p m o g : ℕ) : Type 0 where
   pub positions : Names 64 p
   pub moves : m ≤ 256
@@ -38,13 +41,19 @@ pub record Counts (p m o g : ℕ) : Type 0 where
 -- ---- rows
 -- a box at a position, in a plan of n clocks and p positions: by Number, and then by Name
 abbrev pub PlacedWrong : ℕ → ℕ → ℕ → ClockBox → Refusal → Type 0
-PlacedWrong n p at b e = ((Numbers (b .sides) → ⊥) × (e ≡ refused.Number)) ⊎ (Numbers (b .sides) × ((Names p at × Free n (b .sides)) → ⊥) × (e ≡ refused.Name))
+PlacedWrong n p at b e =
+    ((Numbers (b .sides) → ⊥) × (e ≡ refused.Number))
+    ⊎ (Numbers (b .sides) × ((Names p at × Free n (b .sides)) → ⊥) × (e ≡ refused.Name))
 
+-- no clock above n is reset
 abbrev pub NoResets : ℕ → List Bool → Type 0
 NoResets n rs = (i : ℕ) → i < length rs → n ≤ i → getD rs i false ≡ false
 
+-- an outcome, in a plan of n clocks, p positions and m moves
 abbrev pub OutcomeWrong : ℕ → ℕ → ℕ → Outcome → Refusal → Type 0
-OutcomeWrong n p m o e = ((1000 < o .chance) × (e ≡ refused.Number)) ⊎ ((o .chance ≤ 1000) × ((Names m (o .cause) × Names p (o .target) × NoResets n (o .resets)) → ⊥) × (e ≡ refused.Name))
+OutcomeWrong n p m o e =
+    ((1000 < o .chance) × (e ≡ refused.Number))
+    ⊎ ((o .chance ≤ 1000) × ((Names m (o .cause) × Names p (o .target) × NoResets n (o .resets)) → ⊥) × (e ≡ refused.Name))
 
 -- ---- lists: the rows before k are fine
 abbrev pub Positions-fine : ℕ → List Position → ℕ → Type 0
@@ -88,13 +97,26 @@ pub record Sized (n : ℕ) (ps : List Position) (vs : List Move) (os : List Outc
   pub clocks : Names 8 n
   pub rows : Counts (length ps) (length vs) (length os) (length gs)
 
+-- all rows of a list are fine
+abbrev pub AllPositions : ℕ → List Position → Type 0
+AllPositions n ps = Positions-fine n ps (length ps)
+
+abbrev pub AllMoves : ℕ → List Position → List Move → Type 0
+AllMoves n ps vs = Moves-fine n (length ps) vs (length vs)
+
+abbrev pub AllOutcomes : ℕ → List Position → List Move → List Outcome → Type 0
+AllOutcomes n ps vs os = Outcomes-fine n (length ps) (length vs) os (length os)
+
+abbrev pub AllGoals : ℕ → List Position → List Goal → Type 0
+AllGoals n ps gs = Goals-fine n (length ps) gs (length gs)
+
 -- what it has seen once it accepts
 pub record RowsFine (n : ℕ) (ps : List Position) (vs : List Move) (os : List Outcome) (gs : List Goal) : Type 0 where
   pub sized : Sized n ps vs os gs
-  pub positions : Positions-fine n ps (length ps)
-  pub moves : Moves-fine n (length ps) vs (length vs)
-  pub outcomes : Outcomes-fine n (length ps) (length vs) os (length os)
-  pub goals : Goals-fine n (length ps) gs (length gs)
+  pub positions : AllPositions n ps
+  pub moves : AllMoves n ps vs
+  pub outcomes : AllOutcomes n ps vs os
+  pub goals : AllGoals n ps gs
   pub sums : Chances-fine os (length vs)
 
 -- what it refuses, in its order
@@ -102,7 +124,12 @@ pub data RowsWrong (n : ℕ) (ps : List Position) (vs : List Move) (os : List Ou
   clocks : (Names 8 n → ⊥) → f ≡ record { refusal = refused.Number; list = list.Clocks; row = 0 } → RowsWrong n ps vs os gs f
   counts : Names 8 n → CountWrong (length ps) (length vs) (length os) (length gs) (f .list) → f .refusal ≡ refused.Rows → f .row ≡ 0 → RowsWrong n ps vs os gs f
   position : Sized n ps vs os gs → PositionFault n ps f → RowsWrong n ps vs os gs f
-  move : Sized n ps vs os gs → Positions-fine n ps (length ps) → MoveFault n (length ps) vs f → RowsWrong n ps vs os gs f
-  outcome : Sized n ps vs os gs → Positions-fine n ps (length ps) → Moves-fine n (length ps) vs (length vs) → OutcomeFault n (length ps) (length vs) os f → RowsWrong n ps vs os gs f
-  goal : Sized n ps vs os gs → Positions-fine n ps (length ps) → Moves-fine n (length ps) vs (length vs) → Outcomes-fine n (length ps) (length vs) os (length os) → GoalFault n (length ps) gs f → RowsWrong n ps vs os gs f
-  chance : Sized n ps vs os gs → Positions-fine n ps (length ps) → Moves-fine n (length ps) vs (length vs) → Outcomes-fine n (length ps) (length vs) os (length os) → Goals-fine n (length ps) gs (length gs) → ChanceFault (length vs) os f → RowsWrong n ps vs os gs f
+  move : Sized n ps vs os gs → AllPositions n ps → MoveFault n (length ps) vs f → RowsWrong n ps vs os gs f
+  outcome : Sized n ps vs os gs → AllPositions n ps → AllMoves n ps vs → OutcomeFault n (length ps) (length vs) os f → RowsWrong n ps vs os gs f
+  goal : Sized n ps vs os gs → AllPositions n ps → AllMoves n ps vs → AllOutcomes n ps vs os → GoalFault n (length ps) gs f → RowsWrong n ps vs os gs f
+  chance : Sized n ps vs os gs → AllPositions n ps → AllMoves n ps vs → AllOutcomes n ps vs os → AllGoals n ps gs → ChanceFault (length vs) os f → RowsWrong n ps vs os gs f
+
+-- by answer
+abbrev pub CheckSays : ℕ → List Position → List Move → List Outcome → List Goal → Result (Unit {0}) RowFault → Type 0
+CheckSays n ps vs os gs (Ok u) = RowsFine n ps vs os gs
+CheckSays n ps vs os gs (Err f) = RowsWrong n ps vs os gs f

@@ -7,7 +7,7 @@ ghost use Rattle.std.specs.Orderings.{Decides};
 ghost use Rattle.plans.specs.Boxes.{BoxOf};
 ghost use Rattle.plans.specs.Items.{Names};
 ghost use Rattle.plans.specs.Meaning.{OutcomeOf, chances, no-outcome};
-ghost use Rattle.plans.specs.RowChecks.{CountWrong, Counts, PlacedWrong, NoResets, OutcomeWrong, Positions-fine, Moves-fine, Outcomes-fine, Goals-fine, Chances-fine, PositionFault, MoveFault, OutcomeFault, GoalFault, ChanceFault, RowsFine, RowsWrong};
+ghost use Rattle.plans.specs.RowChecks.{CountWrong, Counts, PlacedWrong, NoResets, OutcomeWrong, Positions-fine, Moves-fine, Outcomes-fine, Goals-fine, Chances-fine, PositionFault, MoveFault, OutcomeFault, GoalFault, ChanceFault, CheckSays};
 use super::box_check::check_box;
 use super::faults::PlanList;
 use super::faults::RowFault;
@@ -204,7 +204,7 @@ pub fn check_rows(
     outcomes: &[Outcome],
     goals: &[Goal],
 ) -> Result<(), RowFault>
-    ensures { λ r. ⌜ ByOk r (λ _. RowsFine clocks (now (positions .entry)) (now (moves .entry)) (now (outcomes .entry)) (now (goals .entry))) (λ f. RowsWrong clocks (now (positions .entry)) (now (moves .entry)) (now (outcomes .entry)) (now (goals .entry)) f) ⌝ }
+    ensures { λ r. ⌜ CheckSays clocks (now (positions .entry)) (now (moves .entry)) (now (outcomes .entry)) (now (goals .entry)) r ⌝ }
 {
     if !named(8, clocks) {
         return Err(RowFault {
