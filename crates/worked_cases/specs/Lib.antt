@@ -1,1 +1,2 @@
 pub mod ZoneCases
+pub mod DistanceCases
