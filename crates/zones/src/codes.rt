@@ -48,21 +48,54 @@ pub fn near(a: Code) -> bool
     a.0 == u32::MAX || (2 * (BIAS - REACH) <= a.0 && a.0 <= 2 * (BIAS + REACH) + 1)
 }
 
+// The first half of the ways through the new bound c at (i, j): from each clock to i, and then c.
+fn halves(codes: &[Code; 81], i: usize, c: Code) -> [Code; 9]
+    requires inside { ⌜ i < 9 ⌝ }
+    requires reach { ⌜ ((p : ℕ) → p < 81 → Near 4000000 (code-of (now codes) p)) ⌝ ∗ ⌜ Near 1000001 (c .0) ⌝ }
+    ensures { λ r. ⌜ ((a : ℕ) → a < 9 → code-of r a ≡ code-plus (code-of (now (codes .entry)) (9 * a + i)) (c .0)) ⌝ }
+{
+    let mut halves = [NONE; 9];
+    for a in 0..9 {
+        halves[a] = joined(codes[9 * a + i], c);
+    }
+    halves
+}
+
+// Every bound, tightened by the way through the new bound c at (i, j).
+fn ways(codes: &[Code; 81], i: usize, j: usize, c: Code) -> [Code; 81]
+    requires inside { ⌜ i < 9 ⌝ ∗ ⌜ j < 9 ⌝ }
+    requires reach { ⌜ ((p : ℕ) → p < 81 → Near 4000000 (code-of (now codes) p)) ⌝ ∗ ⌜ Near 1000001 (c .0) ⌝ }
+    ensures { λ r. ⌜ ((p : ℕ) → p < 81 → code-of r p ≡ code-cut (now (codes .entry)) i j (c .0) p) ⌝ }
+{
+    let halves = halves(codes, i, c);
+    let mut next = [NONE; 81];
+    for p in 0..81 {
+        let via = joined(halves[p / 9], codes[9 * j + p % 9]);
+        next[p] = tighter_code(codes[p], via);
+    }
+    next
+}
+
+// Whether every number is within the reach of a zone. No early return: the loop then runs several codes at a time.
+fn in_range(codes: &[Code; 81]) -> bool
+    ensures { λ r. ⌜ (r ≡ true → (p : ℕ) → p < 81 → Near 4000000 (code-of (now (codes .entry)) p)) × (r ≡ false → (p : ℕ) × (p < 81) × (Near 4000000 (code-of (now (codes .entry)) p) → ⊥)) ⌝ }
+{
+    let mut every = true;
+    for p in 0..81 {
+        every = every & near(codes[p]);
+    }
+    every
+}
+
 // Every bound, tightened by the way through the new bound c at (i, j); none if a number is then out of reach.
 pub fn tightened(codes: &[Code; 81], i: usize, j: usize, c: Code) -> Option<[Code; 81]>
     requires inside { ⌜ i < 9 ⌝ ∗ ⌜ j < 9 ⌝ }
     requires reach { ⌜ ((p : ℕ) → p < 81 → Near 4000000 (code-of (now codes) p)) ⌝ ∗ ⌜ Near 1000001 (c .0) ⌝ }
     ensures { λ r. ⌜ BySome r ((p : ℕ) × (p < 81) × (Near 4000000 (code-cut (now (codes .entry)) i j (c .0) p) → ⊥)) (λ next. (p : ℕ) → p < 81 → (code-of next p ≡ code-cut (now (codes .entry)) i j (c .0) p) × Near 4000000 (code-cut (now (codes .entry)) i j (c .0) p)) ⌝ }
 {
-    let mut next = [NONE; 81];
-    for p in 0..81 {
-        let half = joined(codes[9 * (p / 9) + i], c);
-        let via = joined(half, codes[9 * j + p % 9]);
-        let best = tighter_code(codes[p], via);
-        if !near(best) {
-            return None;
-        }
-        next[p] = best;
+    let next = ways(codes, i, j, c);
+    if !in_range(&next) {
+        return None;
     }
     Some(next)
 }
