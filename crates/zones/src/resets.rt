@@ -44,7 +44,10 @@ fn zero_one(codes: &[Code; 81], k: usize, reset: bool) -> Option<[Code; 81]>
     requires { ⌜ Sound (now codes) ⌝ ∗ ⌜ k < 9 ⌝ }
     ensures { λ r. ⌜ BySome r ((reset ≡ true) × (code-of (now (codes .entry)) k < 33554433)) (λ next. (reset ≡ true → 33554433 ≤ code-of (now (codes .entry)) k) × ((p : ℕ) → p < 81 → code-of next p ≡ cond reset (code-cut (now (codes .entry)) k 0 33554433 p) (code-of (now (codes .entry)) p))) ⌝ }
 {
-    if reset && codes[k].0 < LEVEL.0 {
+    if !reset {
+        return Some(*codes);
+    }
+    if codes[k].0 < LEVEL.0 {
         return None;
     }
     let mut next = [NONE; 81];
