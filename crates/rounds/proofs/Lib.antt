@@ -1,0 +1,5 @@
+pub mod Places
+pub mod Cutting
+pub mod Unasking
+pub mod Calling
+pub mod Given

@@ -1,0 +1,4 @@
+pub mod Codes
+pub mod Answers
+pub mod Unused
+pub mod Calls

@@ -1,0 +1,8 @@
+ghost use Rattle.rounds.specs.Calls.{Zone-calls-given};
+
+// The calls of a zone are functions of its codes.
+pub fn zone_calls_are_given() -> u8
+    ensures { λ _. ⌜ Zone-calls-given ⌝ }
+{
+    0
+}
