@@ -3,3 +3,5 @@ pub mod Cutting
 pub mod Unasking
 pub mod Calling
 pub mod Given
+pub mod Readings
+pub mod Laws
