@@ -5,3 +5,17 @@ pub mod Calling
 pub mod Given
 pub mod Readings
 pub mod Laws
+pub mod Exacts
+pub mod Each
+pub mod Entries
+pub mod Zones
+pub mod Turns
+pub mod Kept
+pub mod Covered
+pub mod Told
+pub mod Causes
+pub mod Loops
+pub mod Runs
+pub mod Histories
+pub mod Fitting
+pub mod Standing
