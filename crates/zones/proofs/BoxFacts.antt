@@ -49,13 +49,13 @@ row-9 s h = ⊎-elim {C = row-of s < 9} (λ e. omega (arith, odd-row s e)) (λ e
 pub column-9 : (s : ℕ) → s < 16 → column-of s < 9
 column-9 s h = ⊎-elim {C = column-of s < 9} (λ e. omega (arith, odd-column s e)) (λ e. omega (arith, even-column s e)) (cases-eq (s % 2) 1)
 
-odd-lim : (sides : List Side) (s : ℕ) → s % 2 ≡ 1 → box-bound sides s ≡ bound-of (side-of sides (s / 2) .upper)
+odd-bound : (sides : List Side) (s : ℕ) → s % 2 ≡ 1 → box-bound sides s ≡ bound-of (side-of sides (s / 2) .upper)
 unfolding box-bound
-odd-lim sides s e = cond-true _ _ _ (eq-eqb _ 1 e)
+odd-bound sides s e = cond-true _ _ _ (eq-eqb _ 1 e)
 
-even-lim : (sides : List Side) (s : ℕ) → (s % 2 ≡ 1 → ⊥) → box-bound sides s ≡ turned (bound-of (side-of sides (s / 2) .lower))
+even-bound : (sides : List Side) (s : ℕ) → (s % 2 ≡ 1 → ⊥) → box-bound sides s ≡ turned (bound-of (side-of sides (s / 2) .lower))
 unfolding box-bound
-even-lim sides s e = cond-false _ _ _ (ne-eqb _ 1 e)
+even-bound sides s e = cond-false _ _ _ (ne-eqb _ 1 e)
 
 fits : (l : UpperBound) → Ordinary l → Beyond l → ⊥
 unfolding Ordinary Beyond
@@ -69,17 +69,17 @@ turned-fits (upto s n) o b = ⊎-elim {C = ⊥} (λ h. omega (arith, ints)) (λ 
 
 not-beyond : (sides : List Side) → Plain sides → (s : ℕ) → s < 16 → Beyond (box-bound sides s) → ⊥
 not-beyond sides p s h b = ⊎-elim {C = ⊥}
-    (λ e. fits _ (p (s / 2) (omega arith) .1) (subst Beyond (odd-lim sides s e) b))
-    (λ e. turned-fits _ (p (s / 2) (omega arith) .0) (subst Beyond (even-lim sides s e) b))
+    (λ e. fits _ (p (s / 2) (omega arith) .1) (subst Beyond (odd-bound sides s e) b))
+    (λ e. turned-fits _ (p (s / 2) (omega arith) .0) (subst Beyond (even-bound sides s e) b))
     (cases-eq (s % 2) 1)
 
 -- the sixteen steps are the eight sides
 pub box-upto : (sides : List Side) (D : ℕ) (v : ℕ → ℤ) → InBox sides D v → Upto sides 16 D v
 box-upto sides D v f m h = ⊎-elim {C = Meets D (v (row-of m) -ℤ v (column-of m)) (box-bound sides m)}
     (λ e. let i : row-of m ≡ suc (m / 2) = odd-row m e ∙ add-one (m / 2) in
-    put (row-of m) (suc (m / 2)) (column-of m) 0 (box-bound sides m) _ i (odd-column m e) (odd-lim sides m e) (f (m / 2) (omega arith) .1))
+    put (row-of m) (suc (m / 2)) (column-of m) 0 (box-bound sides m) _ i (odd-column m e) (odd-bound sides m e) (f (m / 2) (omega arith) .1))
     (λ e. let j : column-of m ≡ suc (m / 2) = even-column m e ∙ add-one (m / 2) in
-    put (row-of m) 0 (column-of m) (suc (m / 2)) (box-bound sides m) _ (even-row m e) j (even-lim sides m e) (f (m / 2) (omega arith) .0))
+    put (row-of m) 0 (column-of m) (suc (m / 2)) (box-bound sides m) _ (even-row m e) j (even-bound sides m e) (f (m / 2) (omega arith) .0))
     (cases-eq (m % 2) 1)
   where
     put : (a a′ b b′ : ℕ) (l l′ : UpperBound) → a ≡ a′ → b ≡ b′ → l ≡ l′ → Meets D (v a′ -ℤ v b′) l′ → Meets D (v a -ℤ v b) l
@@ -92,8 +92,8 @@ upto-box sides D v f k h =
     let h0 : (2 * k) / 2 ≡ k = omega arith in
     let h1 : (2 * k + 1) / 2 ≡ k = omega arith in
     let k1 : k + 1 ≡ suc k = add-one k in (
-      get (row-of (2 * k)) 0 (column-of (2 * k)) (suc k) _ _ (even-row (2 * k) e0) (even-column (2 * k) e0 ∙ ap (λ n. n + 1) h0 ∙ k1) (even-lim sides (2 * k) e0 ∙ ap (λ n. turned (bound-of (side-of sides n .lower))) h0) (f (2 * k) (omega arith)),
-      get (row-of (2 * k + 1)) (suc k) (column-of (2 * k + 1)) 0 _ _ (odd-row (2 * k + 1) e1 ∙ ap (λ n. n + 1) h1 ∙ k1) (odd-column (2 * k + 1) e1) (odd-lim sides (2 * k + 1) e1 ∙ ap (λ n. bound-of (side-of sides n .upper)) h1) (f (2 * k + 1) (omega arith)),
+      get (row-of (2 * k)) 0 (column-of (2 * k)) (suc k) _ _ (even-row (2 * k) e0) (even-column (2 * k) e0 ∙ ap (λ n. n + 1) h0 ∙ k1) (even-bound sides (2 * k) e0 ∙ ap (λ n. turned (bound-of (side-of sides n .lower))) h0) (f (2 * k) (omega arith)),
+      get (row-of (2 * k + 1)) (suc k) (column-of (2 * k + 1)) 0 _ _ (odd-row (2 * k + 1) e1 ∙ ap (λ n. n + 1) h1 ∙ k1) (odd-column (2 * k + 1) e1) (odd-bound sides (2 * k + 1) e1 ∙ ap (λ n. bound-of (side-of sides n .upper)) h1) (f (2 * k + 1) (omega arith)),
     )
   where
     get : (a a′ b b′ : ℕ) (l l′ : UpperBound) → a ≡ a′ → b ≡ b′ → l ≡ l′ → Meets D (v a -ℤ v b) l → Meets D (v a′ -ℤ v b′) l′
@@ -132,40 +132,60 @@ module _ (allows : ℕ → Bool) (normal : UpperBound → UpperBound) (sides : L
 
     pub box-more : (ws : List Code) → CutSays allows normal (row-of n) (column-of n) (box-bound sides n) ys ws (Ok cut.Kept) → Boxed allows normal sides xs ws (n + 1)
     box-more ws s = subst (Boxed allows normal sides xs ws) (sym (add-one n)) (record {
-      keeps = s .2;
-      is = λ a b ha hb. s .3 a b ha hb ∙ next-is a b ha hb;
-      fine = λ m h o. ⊎-elim {C = ⊥} (λ e. s .1 (over-from (subst (OverAt normal sides (at xs)) e o))) (λ e. z .fine m (omega arith) o) (cases-eq m n);
-      inn = λ D v al h u. s .4 D v al .1 (al, z .inn D v al h (λ m l. u m (omega arith)), u n (omega arith));
-      out = λ D v al h. let l = s .4 D v al .0 h in let r = z .out D v al (l .1) in (r .0, more D v (r .1) (l .2));
+      keeps = s .of-domain;
+      is = λ a b ha hb. s .bounds a b ha hb ∙ next-is a b ha hb;
+      fine = λ m h o. ⊎-elim {C = ⊥} (λ e. s .in-range (over-from (subst (OverAt normal sides (at xs)) e o))) (λ e. z .fine m (omega arith) o) (cases-eq m n);
+      inn = λ D v al h u. s .states D v al .1 (al, z .inn D v al h (λ m l. u m (omega arith)), u n (omega arith));
+      out = λ D v al h. let l = s .states D v al .0 h in let r = z .out D v al (l .1) in (r .0, more D v (r .1) (l .2));
     })
 
     pub box-empty : (ws : List Code) → Plain sides → OfDomain normal xs → CutSays allows normal (row-of n) (column-of n) (box-bound sides n) ys ws (Ok cut.Empty) → BoxSays allows normal sides xs xs (Ok cut.Empty)
-    box-empty ws p keeps s = (p, keeps, (n, hn, z .fine, gone), λ D v al h b. gone D v al h (λ m l. box-upto sides D v b m (omega arith)), refl)
+    box-empty ws p keeps s = record {
+      plain = p;
+      was-of-domain = keeps;
+      step = (n, hn, z .fine, gone);
+      gone = λ D v al h b. gone D v al h (λ m l. box-upto sides D v b m (omega arith));
+      unchanged = refl;
+    }
       where
         gone : NoneTo allows sides xs (suc n)
-        gone D v al h u = s .1 D v (al, z .inn D v al h (λ m l. u m (omega arith)), u n (omega arith))
+        gone D v al h u = s .gone D v (al, z .inn D v al h (λ m l. u m (omega arith)), u n (omega arith))
 
     pub box-refused : (ws : List Code) (why : Refusal) → Plain sides → OfDomain normal xs → CutSays allows normal (row-of n) (column-of n) (box-bound sides n) ys ws (Err why) → BoxSays allows normal sides xs xs (Err why)
-    box-refused ws refused.Name p keeps s = s .0 (row-9 n hn, column-9 n hn)
-    box-refused ws refused.Number p keeps s = absurd (s .2 (not-beyond sides p n hn, z .keeps))
+    box-refused ws refused.Line p keeps s = s
+    box-refused ws refused.Order p keeps s = s
+    box-refused ws refused.Number p keeps s = absurd (s .unfit (not-beyond sides p n hn, z .keeps))
+    box-refused ws refused.Name p keeps s = s .unknown (row-9 n hn, column-9 n hn)
+    box-refused ws refused.Chance p keeps s = s
+    box-refused ws refused.Rows p keeps s = s
+    box-refused ws refused.Clocks p keeps s = s
     box-refused ws refused.State p keeps s = s
+    box-refused ws refused.Full p keeps s = s
     box-refused ws refused.Range p keeps s =
-        let t = s .1 in
+        let t = s .some in
         let D = t .0 in
         let v = t .1 .0 in
         let l = t .1 .1 .1 in
         let r = z .out D v (l .0) (l .1) in
-        (p, keeps, (n, hn, z .fine, (D, (v, (t .1 .1 .0, l .0, r .0, more D v (r .1) (l .2)))), over-to (s .2)), refl)
+        record {
+          plain = p;
+          was-of-domain = keeps;
+          step = (n, hn, z .fine, (D, (v, (t .1 .1 .0, l .0, r .0, more D v (r .1) (l .2)))), over-to (s .over));
+          unchanged = refl;
+        }
+    box-refused ws refused.Phase p keeps s = s
+    box-refused ws refused.Entry p keeps s = s
+    box-refused ws refused.Buffer p keeps s = s
 
   pub box-done : (ys : List Code) → Plain sides → OfDomain normal xs → Boxed allows normal sides xs ys 16 → BoxSays allows normal sides xs ys (Ok cut.Kept)
-  box-done ys p keeps z = (
-    p,
-    keeps,
-    z .keeps,
-    z .fine,
-    z .is,
-    λ D v al. (λ h. let r = z .out D v al h in (r .0, upto-box sides D v (r .1)), λ h. z .inn D v al (h .0) (box-upto sides D v (h .1))),
-  )
+  box-done ys p keeps z = record {
+    plain = p;
+    was-of-domain = keeps;
+    of-domain = z .keeps;
+    in-range = z .fine;
+    bounds = z .is;
+    states = λ D v al. (λ h. let r = z .out D v al h in (r .0, upto-box sides D v (r .1)), λ h. z .inn D v al (h .0) (box-upto sides D v (h .1)));
+  }
 
 -- what a cut says, under other names for what it was passed
 pub cut-says : (allows : ℕ → Bool) (normal : UpperBound → UpperBound) (ys ws : List Code) (i i′ j j′ : ℕ) (l l′ : UpperBound) (r r′ : Result Cut Refusal) → i ≡ i′ → j ≡ j′ → l ≡ l′ → r ≡ r′

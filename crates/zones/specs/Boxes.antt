@@ -42,7 +42,7 @@ unfoldable pub turned : UpperBound → UpperBound
 turned none = none
 turned (upto s c) = upto s (negℤ c)
 
--- the bound of step s, and the place that it is cut at
+-- the bound of step s, and the row and column that it is cut at
 unfoldable pub box-bound : List Side → ℕ → UpperBound
 box-bound sides s = cond (eqb (s % 2) 1) (bound-of (side-of sides (s / 2) .upper)) (turned (bound-of (side-of sides (s / 2) .lower)))
 
@@ -60,12 +60,12 @@ InBox sides D v = (k : ℕ) → k < 8 → Meets D (v 0 -ℤ v (suc k)) (turned (
 abbrev pub Upto : List Side → ℕ → ℕ → (ℕ → ℤ) → Type 0
 Upto sides n D v = (m : ℕ) → m < n → Meets D (v (row-of m) -ℤ v (column-of m)) (box-bound sides m)
 
--- the codes after n steps
+-- the zone after n steps
 unfoldable pub boxed : (UpperBound → UpperBound) → List Side → (ℕ → ℕ → UpperBound) → ℕ → ℕ → ℕ → UpperBound
 boxed normal sides Z zero a b = Z a b
 boxed normal sides Z (suc n) a b = cut-at (boxed normal sides Z n) (row-of n) (column-of n) (normal (box-bound sides n)) a b
 
--- a place is beyond what a zone keeps after step n
+-- a number is beyond what a zone keeps after step n
 abbrev pub OverAt : (UpperBound → UpperBound) → List Side → (ℕ → ℕ → UpperBound) → ℕ → Type 0
 OverAt normal sides Z n = (a : ℕ) × ((b : ℕ) × ((a < 9) × (b < 9) × Far (boxed normal sides Z (suc n) a b)))
 
@@ -91,14 +91,14 @@ NoneTo allows sides xs n = (D : ℕ) (v : ℕ → ℤ) → allows D ≡ true →
 pub record BoxOver (allows : ℕ → Bool) (normal : UpperBound → UpperBound) (sides : List Side) (xs ys : List Code) : Type 0 where
   pub plain : Plain sides
   pub was-of-domain : OfDomain normal xs
-  pub where : (n : ℕ) × (n < 16) × FineTo normal sides (at xs) n × SomeTo allows sides xs (suc n) × OverAt normal sides (at xs) n
+  pub step : (n : ℕ) × (n < 16) × FineTo normal sides (at xs) n × SomeTo allows sides xs (suc n) × OverAt normal sides (at xs) n
   pub unchanged : ys ≡ xs
 
 -- no state of xs lies in the box, and no bound is out of range before the step that leaves none
 pub record BoxEmpty (allows : ℕ → Bool) (normal : UpperBound → UpperBound) (sides : List Side) (xs ys : List Code) : Type 0 where
   pub plain : Plain sides
   pub was-of-domain : OfDomain normal xs
-  pub where : (n : ℕ) × (n < 16) × FineTo normal sides (at xs) n × NoneTo allows sides xs (suc n)
+  pub step : (n : ℕ) × (n < 16) × FineTo normal sides (at xs) n × NoneTo allows sides xs (suc n)
   pub gone : (D : ℕ) (v : ℕ → ℤ) → allows D ≡ true → Holds (at xs) D v → InBox sides D v → ⊥
   pub unchanged : ys ≡ xs
 

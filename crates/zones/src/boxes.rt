@@ -7,7 +7,7 @@ use bounds::bound::Bound;
 
 // What a box asks of one clock: at least the lower bound's number (above it, if the bound is not closed),
 // and at most the upper bound's (below it).
-#[derive(Clone, Copy, PartialEq, Eq, Debug)]
+#[derive(Clone, Copy)]
 pub struct Side {
     pub lower: Option<Bound>,
     pub upper: Option<Bound>,

@@ -5,4 +5,4 @@ use Rattle.zones.specs.Codes.{decode, code-of}
 use Rattle.zones.proofs.zone.of_domain.Given as given
 
 abbrev pub Inv-loop-p : given.InvT-loop-p
-Inv-loop-p g l = (q : ℕ) → q < l .p → g .K·TimeDomain .normal (l .time) (decode (code-of (l .codes) q)) ≡ decode (code-of (l .codes) q)
+Inv-loop-p g l = (q : ℕ) → q < l .p → g .T·TimeDomain .normal (l .time) (decode (code-of (l .codes) q)) ≡ decode (code-of (l .codes) q)

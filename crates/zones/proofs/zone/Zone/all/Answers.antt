@@ -21,4 +21,7 @@ pub ghost-result : need.ghost-result
 ghost-result c = (∣ all-sound _ (λ p h. c .loop-p .inv .1 p (omega arith)) ∣₁, tt)
 
 pub returns : need.returns
-returns c = (all-is _ (λ p h. c .loop-p .inv .1 p (omega arith)), λ D v rd. all-holds _ (λ p h. c .loop-p .inv .1 p (omega arith)) D v (rd .0) (rd .1))
+returns c = record {
+  bounds = all-is _ (λ p h. c .loop-p .inv .1 p (omega arith));
+  states = λ D v rd. all-holds _ (λ p h. c .loop-p .inv .1 p (omega arith)) D v (rd .0) (rd .1);
+}

@@ -14,11 +14,16 @@ ghost-self g c =
 pub returns : need.returns
 returns g c =
     let k = c .args .time .now in
-    let t = g .K·TimeDomain in
+    let t = g .T·TimeDomain in
     let laws = scale-laws (t .allows k) (t .normal k) (t .lawful k) in
     let xs = c .args .self .now .codes in
     let s = sound xs (c .args .self .now .ok) in
     let ys = c .backed-next .result in
     let is = c .backed-next .ensures in
     let keeps = c .of-domain .ensures .0 (c .if-not-of-domain .left) in
-    (keeps, back-kept xs ys s is laws keeps, back-is xs ys s is, back-exact xs ys s is laws keeps)
+    record {
+      was-of-domain = keeps;
+      of-domain = back-kept xs ys s is laws keeps;
+      bounds = back-is xs ys s is;
+      states = back-exact xs ys s is laws keeps;
+    }

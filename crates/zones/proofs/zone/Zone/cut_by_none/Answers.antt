@@ -11,14 +11,15 @@ of-domain-requires g c κs = sound _ (c .args .self .now .ok)
 pub returns : need.returns
 returns g c =
     let k = c .args .time .now in
-    let t = g .K·TimeDomain in
+    let t = g .T·TimeDomain in
     let laws = scale-laws (t .allows k) (t .normal k) (t .lawful k) in
     let xs = c .args .self .now .codes in
     let s = sound xs (c .args .self .now .ok) in
-    let keeps = c .of-domain .ensures .0 (c .if-not-of-domain .left) in (
-      (omega (arith, c .if-i-gt8 .left), omega (arith, c .if-j-gt8 .left), none-beyond, keeps),
-      none-over laws xs s keeps (c .args .i) (c .args .j),
-      keeps,
-      none-is laws xs s keeps (c .args .i) (c .args .j),
-      none-exact laws xs s keeps (c .args .i) (c .args .j),
-    )
+    let keeps = c .of-domain .ensures .0 (c .if-not-of-domain .left) in
+    record {
+      fit = record { row = omega (arith, c .if-i-gt8 .left); column = omega (arith, c .if-j-gt8 .left); number = none-beyond; of-domain = keeps };
+      in-range = none-over laws xs s keeps (c .args .i) (c .args .j);
+      of-domain = keeps;
+      bounds = none-is laws xs s keeps (c .args .i) (c .args .j);
+      states = none-exact laws xs s keeps (c .args .i) (c .args .j);
+    }

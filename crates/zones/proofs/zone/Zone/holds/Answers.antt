@@ -6,4 +6,4 @@ pub of-domain-requires : need.of-domain-requires
 of-domain-requires g c κs = sound _ (c .args .self .now .ok)
 
 pub met-requires : need.met-requires
-met-requires g c κs = (sound _ (c .args .self .now .ok) .near, c .if-scale-gt1000 .left)
+met-requires g c κs = (sound _ (c .args .self .now .ok) .near, c .in-Continue-check .ensures tt .most)

@@ -27,7 +27,7 @@ ghost-self g c =
 pub returns-in-None-zeroed : need.returns-in-None-zeroed
 returns-in-None-zeroed g c =
     let k = c .args .time .now in
-    let t = g .K·TimeDomain in
+    let t = g .T·TimeDomain in
     let laws = scale-laws (t .allows k) (t .normal k) (t .lawful k) in
     let xs = c .args .self .now .codes in
     let s = sound xs (c .args .self .now .ok) in
@@ -35,12 +35,17 @@ returns-in-None-zeroed g c =
     let q : ℕ → Bool = reset (c .args .clocks .now) in
     let r : ℕ → Bool = λ i. getD (c .in-Some .on) i false in
     let keeps = c .of-domain .ensures .0 (c .if-not-of-domain .left) in
-    (n .0, keeps, λ D v al rd h. c .in-None-zeroed .ensures tt D (scale-big (t .allows k) D al) v (rd .0) (held-same q r (λ i l. sym (n .1 i l)) (at xs) D v h), refl)
+    record {
+      known = n .0;
+      was-of-domain = keeps;
+      gone = λ D v al rd h. c .in-None-zeroed .ensures tt D (scale-big (t .allows k) D al) v (rd .0) (held-same q r (λ i l. sym (n .1 i l)) (at xs) D v h);
+      unchanged = refl;
+    }
 
 pub returns-in-Some-zeroed : need.returns-in-Some-zeroed
 returns-in-Some-zeroed g c =
     let k = c .args .time .now in
-    let t = g .K·TimeDomain in
+    let t = g .T·TimeDomain in
     let laws = scale-laws (t .allows k) (t .normal k) (t .lawful k) in
     let xs = c .args .self .now .codes in
     let s = sound xs (c .args .self .now .ok) in
@@ -52,13 +57,14 @@ returns-in-Some-zeroed g c =
     let z = c .in-Some-zeroed .ensures tt in
     let ys = c .freed-next .result in
     let is = c .freed-next .ensures in
-    let keeps = c .of-domain .ensures .0 (c .if-not-of-domain .left) in (
-      n .0,
-      keeps,
-      undo-kept r r0 xs zs ys z is laws keeps,
-      λ a b ha hb. undo-is r r0 xs zs ys z is a b ha hb ∙ undo-same r q (n .1) (at zs) (at xs) (z .is) a b ha hb,
-      λ D v al rd. (
+    let keeps = c .of-domain .ensures .0 (c .if-not-of-domain .left) in
+    record {
+      known = n .0;
+      was-of-domain = keeps;
+      of-domain = undo-kept r r0 xs zs ys z is laws keeps;
+      bounds = λ a b ha hb. undo-is r r0 xs zs ys z is a b ha hb ∙ undo-same r q (n .1) (at zs) (at xs) (z .is) a b ha hb;
+      states = λ D v al rd. (
         λ h. held-same r q (n .1) (at xs) D v (undo-exact r r0 xs zs ys z is laws keeps D v al rd .0 h),
         λ h. undo-exact r r0 xs zs ys z is laws keeps D v al rd .1 (held-same q r (λ i l. sym (n .1 i l)) (at xs) D v h),
-      ),
-    )
+      );
+    }

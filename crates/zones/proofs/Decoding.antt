@@ -1,4 +1,4 @@
--- The codes stand for limits: their sum, their order, and the cut
+-- The codes stand for bounds: their sum, their order, and the cut
 use Rattle.zones.specs.declared.codes.Code.{Code}
 use mathlib.Core.Path.{_≡_, refl, sym, ap, _∙_, subst}
 use mathlib.Core.Logic.{_⊎_, inl, inr, ⊎-elim}
@@ -26,13 +26,13 @@ tighter-first a b h = tight-same _ _ (tighter-left a b) (tighter-one (Tight a) a
 pub tighter-second : (a b : UpperBound) → Tight b a → tighter a b ≡ b
 tighter-second a b h = tight-same _ _ (tighter-right a b) (tighter-one (Tight b) a b h (tight-refl b))
 
-pub lim-below : (k : ℕ) → k < 4294967295 → decode k ≡ upto (eqb (k % 2) 1) (pos (k / 2) -ℤ pos 16777216)
+pub decode-below : (k : ℕ) → k < 4294967295 → decode k ≡ upto (eqb (k % 2) 1) (pos (k / 2) -ℤ pos 16777216)
 unfolding decode
-lim-below k h = cond-true (ltb k 4294967295) _ _ (lt-ltb k 4294967295 h)
+decode-below k h = cond-true (ltb k 4294967295) _ _ (lt-ltb k 4294967295 h)
 
-pub lim-none : (k : ℕ) → 4294967295 ≤ k → decode k ≡ none
+pub decode-none : (k : ℕ) → 4294967295 ≤ k → decode k ≡ none
 unfolding decode
-lim-none k h = cond-false (ltb k 4294967295) _ _ (le-ltb k 4294967295 h)
+decode-none k h = cond-false (ltb k 4294967295) _ _ (le-ltb k 4294967295 h)
 
 pub bit-odd : (n : ℕ) → n < 2 → bit (eqb n 1) ≡ n
 bit-odd n h = grind (arith, tells)
@@ -40,19 +40,19 @@ bit-odd n h = grind (arith, tells)
 odd-min : (m n : ℕ) → m < 2 → n < 2 → eqb (min m n) 1 ≡ (eqb m 1 && eqb n 1)
 odd-min m n h k = grind (arith, tells)
 
-pub lim-tight : (a b : ℕ) → a ≤ b → Tight (decode a) (decode b)
+pub decode-tight : (a b : ℕ) → a ≤ b → Tight (decode a) (decode b)
 unfolding Tight
-lim-tight a b h = ⊎-elim {C = Tight (decode a) (decode b)}
+decode-tight a b h = ⊎-elim {C = Tight (decode a) (decode b)}
     (λ k. let l : a < 4294967295 = omega arith in
-    subst (Tight (decode a)) (sym (lim-below b k)) (subst (λ t. Tight t (upto (eqb (b % 2) 1) (pos (b / 2) -ℤ pos 16777216))) (sym (lim-below a l))
+    subst (Tight (decode a)) (sym (decode-below b k)) (subst (λ t. Tight t (upto (eqb (b % 2) 1) (pos (b / 2) -ℤ pos 16777216))) (sym (decode-below a l))
     (omega (arith, ints, bit-odd (a % 2) (omega arith), bit-odd (b % 2) (omega arith)))))
-    (λ k. subst (Tight (decode a)) (sym (lim-none b k)) tt)
+    (λ k. subst (Tight (decode a)) (sym (decode-none b k)) tt)
     (cases-lt b 4294967295)
 
 pub lim-min : (a b : ℕ) → decode (min a b) ≡ tighter (decode a) (decode b)
 lim-min a b = ⊎-elim {C = decode (min a b) ≡ tighter (decode a) (decode b)}
-    (λ h. let e : min a b ≡ a = omega arith in ap decode e ∙ sym (tighter-first _ _ (lim-tight a b (omega arith))))
-    (λ h. let e : min a b ≡ b = omega arith in ap decode e ∙ sym (tighter-second _ _ (lim-tight b a h)))
+    (λ h. let e : min a b ≡ a = omega arith in ap decode e ∙ sym (tighter-first _ _ (decode-tight a b (omega arith))))
+    (λ h. let e : min a b ≡ b = omega arith in ap decode e ∙ sym (tighter-second _ _ (decode-tight b a h)))
     (cases-lt a b)
 
 plus-none : (l : UpperBound) → plus l none ≡ none
@@ -68,9 +68,9 @@ plus-both : (s t : Bool) (a b : ℤ) → plus (upto s a) (upto t b) ≡ upto (s 
 unfolding plus
 plus-both s t a b = refl
 
-pub lim-plus : (r s a b : ℕ) → r + s ≤ 16000000 → Near r a → Near s b → decode (code-plus a b) ≡ plus (decode a) (decode b)
+pub decode-plus : (r s a b : ℕ) → r + s ≤ 16000000 → Near r a → Near s b → decode (code-plus a b) ≡ plus (decode a) (decode b)
 unfolding code-plus
-lim-plus r s a b le na nb = ⊎-elim {C = decode (code-plus a b) ≡ plus (decode a) (decode b)}
+decode-plus r s a b le na nb = ⊎-elim {C = decode (code-plus a b) ≡ plus (decode a) (decode b)}
     (λ h. ⊎-elim {C = decode (code-plus a b) ≡ plus (decode a) (decode b)}
     (λ k. let e : code-plus a b ≡ (a / 2 + b / 2 - 16777216) * 2 + min (a % 2) (b % 2) = grind (arith, tells) in
     let ra = na .0 h in
@@ -78,27 +78,27 @@ lim-plus r s a b le na nb = ⊎-elim {C = decode (code-plus a b) ≡ plus (decod
     let lt : (a / 2 + b / 2 - 16777216) * 2 + min (a % 2) (b % 2) < 4294967295 = omega arith in
     let half : ((a / 2 + b / 2 - 16777216) * 2 + min (a % 2) (b % 2)) / 2 ≡ a / 2 + b / 2 - 16777216 = omega arith in
     let odd : ((a / 2 + b / 2 - 16777216) * 2 + min (a % 2) (b % 2)) % 2 ≡ min (a % 2) (b % 2) = omega arith in
-    ap decode e ∙ lim-below _ lt
+    ap decode e ∙ decode-below _ lt
     ∙ ap (λ n. upto (eqb n 1) (pos (((a / 2 + b / 2 - 16777216) * 2 + min (a % 2) (b % 2)) / 2) -ℤ pos 16777216)) odd
     ∙ ap (λ t. upto t (pos (((a / 2 + b / 2 - 16777216) * 2 + min (a % 2) (b % 2)) / 2) -ℤ pos 16777216)) (odd-min (a % 2) (b % 2) (omega arith) (omega arith))
     ∙ ap (upto (eqb (a % 2) 1 && eqb (b % 2) 1)) (ap (λ n. pos n -ℤ pos 16777216) half ∙ numbers (a / 2) (b / 2) (omega arith))
-    ∙ sym (ap (λ l. plus l (decode b)) (lim-below a h) ∙ ap (plus (upto (eqb (a % 2) 1) (pos (a / 2) -ℤ pos 16777216))) (lim-below b k) ∙ plus-both _ _ _ _))
+    ∙ sym (ap (λ l. plus l (decode b)) (decode-below a h) ∙ ap (plus (upto (eqb (a % 2) 1) (pos (a / 2) -ℤ pos 16777216))) (decode-below b k) ∙ plus-both _ _ _ _))
     (λ k. let e : code-plus a b ≡ 4294967295 = grind (arith, tells) in
-    ap decode e ∙ lim-none 4294967295 (omega arith) ∙ sym (ap (plus (decode a)) (lim-none b k) ∙ plus-none (decode a)))
+    ap decode e ∙ decode-none 4294967295 (omega arith) ∙ sym (ap (plus (decode a)) (decode-none b k) ∙ plus-none (decode a)))
     (cases-lt b 4294967295))
     (λ h. let e : code-plus a b ≡ 4294967295 = grind (arith, tells) in
-    ap decode e ∙ lim-none 4294967295 (omega arith) ∙ sym (ap (λ l. plus l (decode b)) (lim-none a h) ∙ none-plus (decode b)))
+    ap decode e ∙ decode-none 4294967295 (omega arith) ∙ sym (ap (λ l. plus l (decode b)) (decode-none a h) ∙ none-plus (decode b)))
     (cases-lt a 4294967295)
   where
     numbers : (m n : ℕ) → 16777216 ≤ m + n → pos (m + n - 16777216) -ℤ pos 16777216 ≡ (pos m -ℤ pos 16777216) +ℤ (pos n -ℤ pos 16777216)
     numbers m n h = omega (arith, ints)
 
--- the closed form, at a place
-pub lim-cut : (xs : List Code) (i j c a b : ℕ) → i < 9 → j < 9 → a < 9 → b < 9
+-- the closed form, at (i, j)
+pub decode-cut : (xs : List Code) (i j c a b : ℕ) → i < 9 → j < 9 → a < 9 → b < 9
     → ((p : ℕ) → p < 81 → Near 4000000 (code-of xs p)) → Near 1000001 c
     → decode (code-cut xs i j c (9 * a + b)) ≡ cut-at (at xs) i j (decode c) a b
 unfolding code-cut
-lim-cut xs i j c a b hi hj ha hb near nc =
+decode-cut xs i j c a b hi hj ha hb near nc =
     let row : (9 * a + b) / 9 ≡ a = omega arith in
     let column : (9 * a + b) % 9 ≡ b = omega arith in
     let x = near (9 * a + i) (omega arith) in
@@ -106,10 +106,10 @@ lim-cut xs i j c a b hi hj ha hb near nc =
     lim-min (code-of xs (9 * a + b)) _
     ∙ ap (λ n. tighter (at xs a b) (decode (code-plus (code-plus (code-of xs (9 * n + i)) c) (code-of xs (9 * j + (9 * a + b) % 9))))) row
     ∙ ap (λ n. tighter (at xs a b) (decode (code-plus (code-plus (code-of xs (9 * a + i)) c) (code-of xs (9 * j + n))))) column
-    ∙ ap (tighter (at xs a b)) (lim-plus 5000001 4000000 _ _ (omega arith) (near-plus 4000000 1000001 _ _ (omega arith) x nc) y
-    ∙ ap (λ l. plus l (at xs j b)) (lim-plus 4000000 1000001 _ _ (omega arith) x nc))
+    ∙ ap (tighter (at xs a b)) (decode-plus 5000001 4000000 _ _ (omega arith) (near-plus 4000000 1000001 _ _ (omega arith) x nc) y
+    ∙ ap (λ l. plus l (at xs j b)) (decode-plus 4000000 1000001 _ _ (omega arith) x nc))
 
--- what is the same at every place is canonical alike, and holds the same states
+-- what is the same at every (i, j) is canonical alike, and holds the same states
 pub canon-same : (Z Y : ℕ → ℕ → UpperBound) → ((a b : ℕ) → a < 9 → b < 9 → Z a b ≡ Y a b) → Canon Y → Canon Z
 canon-same Z Y e c = record {
   diagonal = λ i h. e i i h h ∙ c .diagonal i h;
@@ -122,13 +122,13 @@ pub code-closed : (n : ℕ) (z : ℤ) → n < 1000000000 → pos n ≡ z +ℤ po
 code-closed n z h e =
     let half : (2 * n + 1) / 2 ≡ n = omega arith in
     let odd : (2 * n + 1) % 2 ≡ 1 = omega arith in
-    lim-below (2 * n + 1) (omega arith) ∙ ap (λ m. upto (eqb m 1) (pos ((2 * n + 1) / 2) -ℤ pos 16777216)) odd ∙ ap (upto true) (ap (λ m. pos m -ℤ pos 16777216) half ∙ omega (arith, ints))
+    decode-below (2 * n + 1) (omega arith) ∙ ap (λ m. upto (eqb m 1) (pos ((2 * n + 1) / 2) -ℤ pos 16777216)) odd ∙ ap (upto true) (ap (λ m. pos m -ℤ pos 16777216) half ∙ omega (arith, ints))
 
 pub code-open : (n : ℕ) (z : ℤ) → n < 1000000000 → pos n ≡ z +ℤ pos 16777216 → decode (2 * n) ≡ upto false z
 code-open n z h e =
     let half : (2 * n) / 2 ≡ n = omega arith in
     let odd : (2 * n) % 2 ≡ 0 = omega arith in
-    lim-below (2 * n) (omega arith) ∙ ap (λ m. upto (eqb m 1) (pos ((2 * n) / 2) -ℤ pos 16777216)) odd ∙ ap (upto false) (ap (λ m. pos m -ℤ pos 16777216) half ∙ omega (arith, ints))
+    decode-below (2 * n) (omega arith) ∙ ap (λ m. upto (eqb m 1) (pos ((2 * n) / 2) -ℤ pos 16777216)) odd ∙ ap (upto false) (ap (λ m. pos m -ℤ pos 16777216) half ∙ omega (arith, ints))
 
 pub lim-at : (k : ℕ) (z : ℤ) → k < 4294967295 → z ≡ pos (k / 2) -ℤ pos 16777216 → upto (eqb (k % 2) 1) z ≡ decode k
-lim-at k z h e = ap (upto (eqb (k % 2) 1)) e ∙ sym (lim-below k h)
+lim-at k z h e = ap (upto (eqb (k % 2) 1)) e ∙ sym (decode-below k h)
