@@ -26,7 +26,7 @@ use Rattle.zones.specs.Codes.{code-of, code-plus, code-cut, at, Near, Sound}
 use Rattle.zones.specs.Matrices.{Holds}
 use Rattle.zones.specs.Cuts.{OfDomain, Beyond, Fit, CutSays}
 use Rattle.zones.specs.Boxes.{Ordinary, Plain, side-of, turned, row-of, column-of, box-bound, Upto, Boxed, SomeTo, NoneTo, FineTo, OverAt, BoxSays, BoxKept, BoxEmpty, BoxOver}
-use Rattle.zones.proofs.CutFacts.{none-left, some-left, at-is, still-sound, still-kept, exact, not-over, over}
+use Rattle.zones.proofs.CutFacts.{cut-empties, cut-overs, cut-sound, cut-keeps}
 use Rattle.zones.proofs.BoxFacts.{row-9, column-9, box-start, box-more, box-empty, box-refused, box-done, box-upto}
 use Rattle.zones.proofs.Whole.{a-state}
 use Rattle.rounds.specs.Codes.{Remains, then, every, codes-to, in-reach, coded, cut-code, cut-zone, box-steps, cut-box}
@@ -44,30 +44,17 @@ module _ {allows : ℕ → Bool} {normal : UpperBound → UpperBound} (K : Scale
   unfolding cut-code
   cut-fine xs s keeps i j hi hj b n =
       let c = coded (normal b) in
-      let ok = coded-is K b n in
-      let ec = ok .0 in
-      let nc = ok .1 in
       let fit : Fit normal i j b xs = record { row = hi; column = hj; number = n; of-domain = keeps } in
+      let code = coded-is K b n in
       cond-both (ltb (code-plus (code-of xs (9 * j + i)) c) 33554433) empty (cond (every 81 (λ p. in-reach (code-cut xs i j c p))) (kept (codes-to 81 (code-cut xs i j c))) beyond) (CutFine i j b xs)
-      (λ e. (record { fit = fit; gone = none-left K xs s keeps i j hi hj b c nc ec (ltb-true _ _ e); unchanged = refl }, tt))
+      (λ e. (cut-empties K xs s i j b fit c code (ltb-true _ _ e), tt))
       (λ e. let some : 33554433 ≤ code-plus (code-of xs (9 * j + i)) c = ltb-false _ _ e in
       cond-both (every 81 (λ p. in-reach (code-cut xs i j c p))) (kept (codes-to 81 (code-cut xs i j c))) beyond (CutFine i j b xs)
       (λ f. let ys = codes-to 81 (code-cut xs i j c) in
       let is : (p : ℕ) → p < 81 → (code-of (codes-to 81 (code-cut xs i j c)) p ≡ code-cut xs i j c p) × Near 4000000 (code-cut xs i j c p) = λ p h. (code-to 81 (code-cut xs i j c) p h, in-reach-yes _ (every-at 81 (λ q. in-reach (code-cut xs i j c q)) f p h)) in
-      (record {
-        fit = fit;
-        in-range = not-over K xs s keeps i j hi hj b c nc ec some ys is;
-        of-domain = still-kept K xs s keeps i j hi hj b c nc ec some ys is;
-        bounds = at-is K xs s keeps i j hi hj b c nc ec some ys is;
-        states = exact K xs s keeps i j hi hj b c nc ec some ys is;
-      }, record { many = many-codes 81 (code-cut xs i j c); sound = still-sound K xs s keeps i j hi hj b c nc ec some ys is }))
+      (cut-keeps K xs s i j b fit c code some ys is, record { many = many-codes 81 (code-cut xs i j c); sound = cut-sound K xs s i j b fit c code some ys is }))
       (λ f. let q = every-not 81 (λ p. in-reach (code-cut xs i j c p)) f in
-      (record {
-        fit = fit;
-        some = some-left K xs s keeps i j hi hj b c nc ec some;
-        over = over K xs s keeps i j hi hj b c nc ec (q .0, q .1, in-reach-no _ (q .2));
-        unchanged = refl;
-      }, tt)))
+      (cut-overs K xs s i j b fit c code some (q .0, q .1, in-reach-no _ (q .2)), tt)))
 
 -- ---- a cut by a box
 ordinary-fits : (l : UpperBound) → Ordinary l → Beyond l → ⊥

@@ -1,4 +1,4 @@
--- Lists of 81 codes, and tests of every place
+-- Lists of 81 codes, and tests of all of them
 use mathlib.Core.Path.{_≡_, refl, sym, ap, _∙_, subst}
 use mathlib.Core.Logic.{_⊎_, inl, inr, ⊎-elim}
 use mathlib.Core.List.{List, map}
@@ -15,13 +15,13 @@ use Rattle.std.proofs.shelf.Counted.{getD-map-counting, length-map-counting, fi
 use Rattle.std.proofs.shelf.Ways.{tells}
 use Rattle.std.proofs.shelf.Signed.{by-ltZ}
 use Rattle.std.proofs.shelf.Tests.{and-parts, and-from, and-cases, cases-eq, cases-lt}
-use Rattle.bounds.specs.Bounds.{UpperBound, none, upto, Meets, level}
+use Rattle.bounds.specs.Bounds.{UpperBound, none, upto, Meets, Tight, level}
 use Rattle.bounds.proofs.ScaleLaws.{ScaleLaws}
 use Rattle.bounds.proofs.Apart.{normal-none}
 use Rattle.zones.specs.declared.codes.Code.{Code}
 use Rattle.zones.specs.Codes.{code-of, decode, at, Near, Sound}
-use Rattle.zones.specs.Cuts.{Beyond}
-use Rattle.zones.proofs.CodeLims.{code-closed, code-open, lim-none, lim-tight}
+use Rattle.zones.specs.Cuts.{Beyond, CodeOf}
+use Rattle.zones.proofs.Decoding.{code-closed, code-open, decode-none}
 use Rattle.zones.proofs.CutFacts.{close}
 use Rattle.zones.proofs.Codings.{code-le}
 use Rattle.rounds.specs.Codes.{every, codes-to, in-reach, half-code, coded, meets}
@@ -67,8 +67,8 @@ same-list xs ys m n f =
 -- the same bounds have the same codes
 same-code : (a b : ℕ) → a ≤ 4294967295 → b ≤ 4294967295 → decode a ≡ decode b → a ≡ b
 same-code a b h k e =
-    let l : a ≤ b = code-le a b h (subst (λ l. Rattle.bounds.specs.Bounds.Tight (decode a) l) e (tight-refl (decode a))) in
-    let m : b ≤ a = code-le b a k (subst (λ l. Rattle.bounds.specs.Bounds.Tight (decode b) l) (sym e) (tight-refl (decode b))) in
+    let l : a ≤ b = code-le a b h (subst (λ l. Tight (decode a) l) e (tight-refl (decode a))) in
+    let m : b ≤ a = code-le b a k (subst (λ l. Tight (decode b) l) (sym e) (tight-refl (decode b))) in
     omega arith
 
 pub same-zone : (xs ys : List Code) → Sound xs → Sound ys → length xs ≡ 81 → length ys ≡ 81 → ((i j : ℕ) → i < 9 → j < 9 → at xs i j ≡ at ys i j) → xs ≡ ys
@@ -98,22 +98,22 @@ in-range s c n = (
     by-ltZ (pos 1000000) c (λ h. absurd (n (inr h))) (λ h. h))
 
 module _ {allows : ℕ → Bool} {normal : UpperBound → UpperBound} (K : ScaleLaws allows normal) where
-  coded-fits : (b l : UpperBound) → l ≡ normal b → (Beyond b → ⊥) → (decode (coded l) ≡ l) × Near 1000001 (coded l)
+  coded-fits : (b l : UpperBound) → l ≡ normal b → (Beyond b → ⊥) → CodeOf l (coded l)
   unfolding coded
-  coded-fits b none e n = (lim-none 4294967295 (omega arith), (λ h. absurd (omega arith), omega arith))
+  coded-fits b none e n = record { is = decode-none 4294967295 (omega arith); near = (λ h. absurd (omega arith), omega arith) }
   coded-fits none (upto t c) e n = absurd (let f = e ∙ normal-none K in let z : _≡_ {A = ℕ} 0 1 = cc in omega arith)
   coded-fits (upto s m) (upto true c) e n =
       let r = in-range s m n in
       let k = close K s true m c e in
       let h = half-is c (omega (arith, ints)) (omega (arith, ints)) in
-      (code-closed (half-code c) c (omega (arith, ints)) h, (λ _. omega (arith, ints), omega (arith, ints)))
+      record { is = code-closed (half-code c) c (omega (arith, ints)) h; near = (λ _. omega (arith, ints), omega (arith, ints)) }
   coded-fits (upto s m) (upto false c) e n =
       let r = in-range s m n in
       let k = close K s false m c e in
       let h = half-is c (omega (arith, ints)) (omega (arith, ints)) in
-      (code-open (half-code c) c (omega (arith, ints)) h, (λ _. omega (arith, ints), omega (arith, ints)))
+      record { is = code-open (half-code c) c (omega (arith, ints)) h; near = (λ _. omega (arith, ints), omega (arith, ints)) }
 
-  pub coded-is : (b : UpperBound) → (Beyond b → ⊥) → (decode (coded (normal b)) ≡ normal b) × Near 1000001 (coded (normal b))
+  pub coded-is : (b : UpperBound) → (Beyond b → ⊥) → CodeOf (normal b) (coded (normal b))
   coded-is b n = coded-fits b (normal b) refl n
 
 pub meets-yes : (D : ℕ) (d : ℤ) (b : UpperBound) → meets D d b ≡ true → Meets D d b

@@ -14,7 +14,7 @@ use Rattle.bounds.specs.Sums.{bound-of}
 use Rattle.zones.specs.declared.boxes.Side.{Side}
 use Rattle.zones.specs.Boxes.{side-of, turned, box-bound, row-of, column-of, boxed}
 use Rattle.zones.proofs.BoxFacts.{row-9, column-9}
-use Rattle.zones.proofs.CodeLims.{tighter-first}
+use Rattle.zones.proofs.Decoding.{tighter-first}
 use Rattle.rounds.specs.Unused.{Unasked}
 
 plus-none : (l : UpperBound) → plus l none ≡ none

@@ -52,7 +52,7 @@ coded (upto false c) = 2 * half-code c
 unfoldable pub whole : List Code
 whole = codes-to 81 code-all
 
--- cut at (i, j) by the bound whose code is c: no state is left, or every place is tightened, unless one is then out of range
+-- cut at (i, j) by the bound whose code is c: no state is left, or every bound is tightened, unless one is then out of range
 unfoldable pub cut-code : ℕ → ℕ → ℕ → List Code → Remains
 cut-code i j c xs = cond (ltb (code-plus (code-of xs (9 * j + i)) c) 33554433) empty
   (cond (every 81 (λ p. in-reach (code-cut xs i j c p))) (kept (codes-to 81 (code-cut xs i j c))) beyond)
@@ -86,7 +86,7 @@ freed r xs = kept (codes-to 81 (code-free r xs))
 unfoldable pub undo-zone : (ℕ → Bool) → List Code → Remains
 undo-zone r xs = then (zero-steps r 9 xs) (freed r)
 
--- as tight at every place
+-- as tight at every (i, j)
 unfoldable pub within-zone : List Code → List Code → Bool
 within-zone xs ys = every 81 (λ p. leb (code-of xs p) (code-of ys p))
 
@@ -96,6 +96,6 @@ meets D d none = true
 meets D d (upto true c) = leZ d (c *ℤ pos D)
 meets D d (upto false c) = ltZ d (c *ℤ pos D)
 
--- the readings v at the scale D meet every place
+-- the readings v at the scale D meet every bound
 unfoldable pub holds-zone : List Code → ℕ → (ℕ → ℤ) → Bool
 holds-zone xs D v = every 81 (λ p. meets D (v (p / 9) -ℤ v (p % 9)) (decode (code-of xs p)))
