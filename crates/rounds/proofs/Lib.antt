@@ -19,3 +19,4 @@ pub mod Runs
 pub mod Histories
 pub mod Fitting
 pub mod Standing
+pub mod Timely

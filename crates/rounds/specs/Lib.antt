@@ -9,3 +9,4 @@ pub mod Causes
 pub mod Searches
 pub mod Histories
 pub mod Theorems
+pub mod Deadlines
