@@ -20,7 +20,7 @@ given allows normal K = record {
   within-says = λ xs ys z y. (within-inside K xs ys (z .codes) y (z .of-domain), inside-within K xs ys (z .codes) y (z .of-domain));
   within-only = λ xs ys b z y w. within-only K xs ys (z .codes) y (z .of-domain) b w;
   holds-says = λ xs D v. (holds-yes xs D v, yes-holds xs D v);
-  holds-only = holds-only (scales allows) normal;
+  holds-only = holds-only allows normal;
 }
 
 pub zone-calls-given : Zone-calls-given

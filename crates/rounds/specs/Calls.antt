@@ -62,7 +62,7 @@ pub record CallsGiven (allows : ℕ → Bool) (normal : UpperBound → UpperBoun
   pub within-says : (xs ys : List Code) → ZoneOf normal xs → ZoneCodes ys → Iff (within-zone xs ys ≡ true) (Inside (scales allows) xs ys)
   pub within-only : (xs ys : List Code) (b : Bool) → ZoneOf normal xs → ZoneCodes ys → WithinSays (scales allows) normal xs ys (Ok b) → within-zone xs ys ≡ b
   pub holds-says : (xs : List Code) (D : ℕ) (v : ℕ → ℤ) → Iff (holds-zone xs D v ≡ true) (Holds (at xs) D v)
-  pub holds-only : (D : ℕ) (rs : List ℕ) (xs : List Code) (b : Bool) → HoldsSays (scales allows) normal D rs xs (Ok b) → holds-zone xs D (reading rs) ≡ b
+  pub holds-only : (D : ℕ) (rs : List ℕ) (xs : List Code) (b : Bool) → HoldsSays allows normal D rs xs (Ok b) → holds-zone xs D (reading rs) ≡ b
 
 -- for every lawful time domain
 abbrev pub Zone-calls-given : Type 0

@@ -1,0 +1,2 @@
+mod calls;
+pub mod zones_back;
