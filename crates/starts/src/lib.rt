@@ -1,2 +1,3 @@
 mod calls;
-pub mod zones_back;
+pub mod starts;
+mod zones_back;

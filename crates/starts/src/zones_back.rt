@@ -10,7 +10,7 @@ use zones::boxes::ClockBox;
 use zones::zone::Zone;
 
 // The states from which a wait leads into the area, all in the invariant.
-fn into_area<T: TimeDomain>(
+pub fn into_area<T: TimeDomain>(
     time: &T,
     invariant: &ClockBox,
     area: &ClockBox,
@@ -24,7 +24,7 @@ fn into_area<T: TimeDomain>(
 }
 
 // The states from which a wait, and then a reset in the guard, leads into the zone, all before it in the invariant.
-fn into_zone<T: TimeDomain>(
+pub fn into_zone<T: TimeDomain>(
     zone: Zone,
     time: &T,
     resets: &[bool; 8],
