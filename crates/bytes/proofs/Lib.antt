@@ -1,0 +1,4 @@
+pub mod Steps
+pub mod Parting
+pub mod Reading
+pub mod Spelling

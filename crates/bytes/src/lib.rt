@@ -1,0 +1,2 @@
+pub mod numerals;
+pub mod parts;
