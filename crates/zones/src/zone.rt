@@ -47,7 +47,7 @@ pub struct Zone {
 }
 
 // What is left of a zone: some states, or none.
-#[derive(Clone, Copy)]
+#[derive(Clone, Copy, PartialEq, Eq, Debug)]
 pub enum Cut {
     Kept,
     Empty,

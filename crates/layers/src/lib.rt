@@ -1,0 +1,3 @@
+pub mod deadline;
+mod narrowing;
+pub mod restriction;
