@@ -15,8 +15,8 @@ text l = take (l .used) (l .bytes)
 
 -- the bytes ds come after the bytes `before`, or all is as it was where a line has no room for them
 abbrev pub AddSays : List ℕ → List ℕ → Result (Unit {0}) Refusal → List ℕ → Type 0
-AddSays before ds (Ok u) after = (length before + length ds ≤ 1100) × (after ≡ before ++ ds)
-AddSays before ds (Err e) after = (e ≡ refused.Buffer) × (1100 < length before + length ds) × (after ≡ before)
+AddSays before ds (Ok u) after = (length before + length ds ≤ 1200) × (after ≡ before ++ ds)
+AddSays before ds (Err e) after = (e ≡ refused.Buffer) × (1200 < length before + length ds) × (after ≡ before)
 
 -- buf with ds written from `at` on, and all else as before
 abbrev pub written : List ℕ → ℕ → List ℕ → List ℕ

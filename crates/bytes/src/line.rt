@@ -6,10 +6,10 @@ ghost use Rattle.std.specs.Written.{decimal, signed};
 ghost use Rattle.bytes.specs.Lines.{text, AddSays, WriteSays};
 use bounds::refusal::Refusal;
 
-// A line of text as it is put together, of at most 1,100 bytes.
+// A line of text as it is put together, of at most 1,200 bytes.
 #[derive(Clone, Copy)]
 pub struct Line {
-    bytes: [u8; 1100],
+    bytes: [u8; 1200],
     used: usize,
 }
 
@@ -18,7 +18,7 @@ impl Line {
         ensures { λ r. ⌜ text r ≡ [] ⌝ }
     {
         Line {
-            bytes: [0; 1100],
+            bytes: [0; 1200],
             used: 0,
         }
     }
@@ -26,9 +26,9 @@ impl Line {
     // How many bytes the line has.
     pub fn len(&self) -> usize
         ensures value { λ r. ⌜ r ≡ length (text (now (self .entry))) ⌝ }
-        ensures bound { λ r. ⌜ r ≤ 1100 ⌝ }
+        ensures bound { λ r. ⌜ r ≤ 1200 ⌝ }
     {
-        self.used.min(1100)
+        self.used.min(1200)
     }
 
     // The bytes of the line.
@@ -43,7 +43,7 @@ impl Line {
     pub fn push(&mut self, byte: u8) -> Result<(), Refusal>
         ensures { λ r. ⌜ AddSays (text (now (self .entry))) (byte ∷ []) r (text (now (self .exit))) ⌝ }
     {
-        if self.len() >= 1100 {
+        if self.len() >= 1200 {
             return Err(Refusal::Buffer);
         }
         self.lay(byte);
@@ -54,7 +54,7 @@ impl Line {
     pub fn number(&mut self, n: u64) -> Result<(), Refusal>
         ensures { λ r. ⌜ AddSays (text (now (self .entry))) (decimal n) r (text (now (self .exit))) ⌝ }
     {
-        if self.len() + number_len(n) > 1100 {
+        if self.len() + number_len(n) > 1200 {
             return Err(Refusal::Buffer);
         }
         self.digits(n);
@@ -67,7 +67,7 @@ impl Line {
     {
         let n = u64::from(z.unsigned_abs());
         if z < 0 {
-            if self.len() + 1 + number_len(n) > 1100 {
+            if self.len() + 1 + number_len(n) > 1200 {
                 return Err(Refusal::Buffer);
             }
             self.lay(b'-');
@@ -81,7 +81,7 @@ impl Line {
     pub fn word(&mut self, bytes: &[u8]) -> Result<(), Refusal>
         ensures { λ r. ⌜ AddSays (text (now (self .entry))) (now (bytes .entry)) r (text (now (self .exit))) ⌝ }
     {
-        if bytes.len() > 1100 - self.len() {
+        if bytes.len() > 1200 - self.len() {
             return Err(Refusal::Buffer);
         }
         for b in bytes {
@@ -106,7 +106,7 @@ impl Line {
     }
 
     fn lay(&mut self, byte: u8)
-        requires { ⌜ length (text (now self)) < 1100 ⌝ }
+        requires { ⌜ length (text (now self)) < 1200 ⌝ }
         ensures { λ _. ⌜ text (now (self .exit)) ≡ text (now (self .entry)) ++ (byte ∷ []) ⌝ }
     {
         self.bytes[self.used] = byte;
@@ -114,7 +114,7 @@ impl Line {
     }
 
     fn digits(&mut self, n: u64)
-        requires { ⌜ length (text (now self)) + length (decimal n) ≤ 1100 ⌝ }
+        requires { ⌜ length (text (now self)) + length (decimal n) ≤ 1200 ⌝ }
         ensures { λ _. ⌜ text (now (self .exit)) ≡ text (now (self .entry)) ++ decimal n ⌝ }
     {
         if n >= 10 {
