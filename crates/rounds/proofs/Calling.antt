@@ -103,9 +103,12 @@ module _ {allows : ℕ → Bool} {normal : UpperBound → UpperBound} (K : Scale
       let f : ℕ → ℕ = λ p. cond (r n) (code-cut ys n 0 33554433 p) (code-of ys p) in
       cond-both (r n && ltb (code-of ys n) 33554433) empty (kept (codes-to 81 (λ p. cond (r n) (code-cut ys n 0 33554433 p) (code-of ys p)))) (Zeroing (suc n))
       (λ e. let a = and-parts (r n) (ltb (code-of ys n) 33554433) e in stuck r xs ys n h s (a .0) (ltb-true _ _ (a .1)))
-      (λ e. (subst (Zeroed r xs (codes-to 81 f)) (add-one n)
-      (zero-more r xs ys n h s (codes-to 81 f) (λ p l. code-to 81 f p l)
-      (λ on. ⊎-elim {C = 33554433 ≤ code-of ys n} (λ a. absurd (both-ways (r n) a on)) (λ a. ltb-false _ _ a) (and-cases (r n) (ltb (code-of ys n) 33554433) e))), many-codes 81 f))
+      (λ e. (
+        subst (Zeroed r xs (codes-to 81 f)) (add-one n)
+            (zero-more r xs ys n h s (codes-to 81 f) (λ p l. code-to 81 f p l)
+            (λ on. ⊎-elim {C = 33554433 ≤ code-of ys n} (λ a. absurd (both-ways (r n) a on)) (λ a. ltb-false _ _ a) (and-cases (r n) (ltb (code-of ys n) 33554433) e))),
+        many-codes 81 f,
+      ))
 
   zero-on : (n : ℕ) → n < 9 → (o : Remains) → Zeroing n o → Zeroing (suc n) (then o (zero-clock r n))
   unfolding Zeroing
@@ -150,8 +153,11 @@ module _ {allows : ℕ → Bool} {normal : UpperBound → UpperBound} (K : Scale
     from-list D v h = held-same (reset cs) r (λ i l. sym (agree i l)) (at xs) D v h
 
     said-kept : (o : Remains) → Undoes allows normal r xs o → (ys : List Code) → ZoneCodes ys → UndoKept allows normal cs xs ys → (answered o ≡ Ok cut.Kept) × (left xs o ≡ ys)
-    said-kept (kept zs) u ys y k = (refl, same-zone zs ys (u .codes .sound) (y .sound) (u .codes .many) (y .many)
-        (λ i j hi hj. u .bounds i j hi hj ∙ sym (undo-same (reset cs) r (λ k l. sym (agree k l)) (zero-all (reset cs) (at xs) 9) (at xs) (λ a b ha hb. refl) i j hi hj) ∙ sym (k .bounds i j hi hj)))
+    said-kept (kept zs) u ys y k = (
+      refl,
+      same-zone zs ys (u .codes .sound) (y .sound) (u .codes .many) (y .many)
+          (λ i j hi hj. u .bounds i j hi hj ∙ sym (undo-same (reset cs) r (λ k l. sym (agree k l)) (zero-all (reset cs) (at xs) 9) (at xs) (λ a b ha hb. refl) i j hi hj) ∙ sym (k .bounds i j hi hj)),
+    )
     said-kept empty u ys y k = absurd (undo-some ys y (k .of-domain) (λ D v al rd h. u D v al rd (from-list D v (k .states D v al rd .0 h))))
     said-kept beyond u ys y k = absurd u
 

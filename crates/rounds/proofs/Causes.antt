@@ -26,7 +26,7 @@ module _ (need : Entry → ℕ) (f : ℕ) where
 
   spent-more : (es fs gs : List Entry) (room left last : ℕ) → Spent need es room fs left → Spent need fs left gs last → Spent need es room gs last
   spent-more es fs gs room left last a b =
-    (a .0 ++ b .0, b .1 ∙ ap (λ x. x ++ b .0) (a .1) ∙ append-assoc es (a .0) (b .0), omega (arith, a .2, b .2, needs-append (a .0) (b .0)))
+      (a .0 ++ b .0, b .1 ∙ ap (λ x. x ++ b .0) (a .1) ∙ append-assoc es (a .0) (b .0), omega (arith, a .2, b .2, needs-append (a .0) (b .0)))
 
   -- one start
   abbrev Of-one : ℕ → Remains → List Entry → ℕ → Turn → Type 0
@@ -43,15 +43,15 @@ module _ (need : Entry → ℕ) (f : ℕ) where
   put-one : (p : ℕ) (z : List Code) (es : List Entry) (room : ℕ) → covering es p z ≡ false → Of-one p (kept z) es room (put need es room (record { position = p; round = f; zone = z }))
   unfolding put
   put-one p z es room c =
-    let e : Entry = record { position = p; round = f; zone = z } in
-    cond-both (leb (need e) room) (done (es ++ (e ∷ [])) (room - need e)) (full es room) (Of-one p (kept z) es room)
+      let e : Entry = record { position = p; round = f; zone = z } in
+      cond-both (leb (need e) room) (done (es ++ (e ∷ [])) (room - need e)) (full es room) (Of-one p (kept z) es room)
       (λ t. let l = leb-true (need e) room t in ((e ∷ [], refl, omega arith), kept-beyond z))
       (λ t. (spent-none es room, (z, refl, c, leb-false (need e) room t)))
 
   tried-one : (p : ℕ) (o : Remains) (es : List Entry) (room : ℕ) → Of-one p o es room (tried need f p o es room)
   unfolding tried offer
   tried-one p (kept z) es room =
-    cond-both (covering es p z) (done es room) (put need es room (record { position = p; round = f; zone = z })) (Of-one p (kept z) es room)
+      cond-both (covering es p z) (done es room) (put need es room (record { position = p; round = f; zone = z })) (Of-one p (kept z) es room)
       (λ _. (spent-none es room, kept-beyond z))
       (λ c. put-one p z es room c)
   tried-one p empty es room = (spent-none es room, empty-beyond)
@@ -70,7 +70,7 @@ module _ (need : Entry → ℕ) (f : ℕ) where
   because-more c cs es fs room left s n (range gs last) b = (spent-more es fs gs room left last s (b .0), let x = b .1 in (suc (x .0), omega (arith, x .1), x .2))
 
   because-onward : (c : Start) (cs : List Start) (es : List Entry) (room : ℕ) → ((fs : List Entry) (left : ℕ) → Because need f cs fs left (tries need f cs fs left))
-    → (t : Turn) → Of-one (c .position) (c .zone) es room t → Because need f (c ∷ cs) es room (onward t (tries need f cs))
+      → (t : Turn) → Of-one (c .position) (c .zone) es room t → Because need f (c ∷ cs) es room (onward t (tries need f cs))
   because-onward c cs es room ih (done fs left) b = because-more c cs es fs room left (b .0) (b .1) (tries need f cs fs left) (ih fs left)
   because-onward c cs es room ih (full fs left) b = (b .0, let x = b .1 in (0, x .0, omega arith, x .1, x .2, x .3))
   because-onward c cs es room ih (range fs left) b = (b .0, (0, omega arith, b .1))

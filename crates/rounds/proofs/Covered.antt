@@ -21,9 +21,9 @@ module _ (M : PlanMeaning) (es : List Entry) where
   -- the entries of f finished rounds cover each run of fewer crossings
   pub run-covered : (f : ℕ) → Founded M es f → (D : ℕ) → Scale M D → {p : ℕ} {v : ℕ → ℕ} {k t : ℕ} → Run M D p v k t → k < f → Covers es k D p v
   run-covered f w D s (last {p} {v} d g st r) l =
-    subst (λ x. Covers es 0 D x v) (r .here) (w .based l g (r .exists) D v d s (subst (λ x. Waits M D x v d) (sym (r .here)) st) (r .inside))
+      subst (λ x. Covers es 0 D x v) (r .here) (w .based l g (r .exists) D v d s (subst (λ x. Waits M D x v d) (sym (r .here)) st) (r .inside))
   run-covered f w D s (first {p} {v} {k} {t} d o st c rest) l =
-    ∥∥₁-elim (run-covered f w D s rest (omega arith)) ∥∥₁-prop (λ x.
+      ∥∥₁-elim (run-covered f w D s rest (omega arith)) ∥∥₁-prop (λ x.
       covers-later es (entry-at es (x .0) .round + 1) (suc k) D p v (omega (arith, x .3))
       (subst (λ y. Covers es (entry-at es (x .0) .round + 1) D y v) (c .from)
       (w .stepped (x .0) (x .1) (omega (arith, x .3, l)) o (c .exists) D v d s (c .likely) (subst (λ y. Waits M D y v d) (sym (c .from)) st) (c .guarded) (x .2))))
@@ -31,9 +31,9 @@ module _ (M : PlanMeaning) (es : List Entry) where
   -- and, where every entry's crossings are covered, each run
   pub run-complete : All-based M es → Complete M es → (D : ℕ) → Scale M D → {p : ℕ} {v : ℕ → ℕ} {k t : ℕ} → Run M D p v k t → Covers es k D p v
   run-complete b a D s (last {p} {v} d g st r) =
-    subst (λ y. Covers es 0 D y v) (r .here) (b g (r .exists) D v d s (subst (λ y. Waits M D y v d) (sym (r .here)) st) (r .inside))
+      subst (λ y. Covers es 0 D y v) (r .here) (b g (r .exists) D v d s (subst (λ y. Waits M D y v d) (sym (r .here)) st) (r .inside))
   run-complete b a D s (first {p} {v} {k} {t} d o st c rest) =
-    ∥∥₁-elim (run-complete b a D s rest) ∥∥₁-prop (λ x.
+      ∥∥₁-elim (run-complete b a D s rest) ∥∥₁-prop (λ x.
       covers-later es (entry-at es (x .0) .round + 1) (suc k) D p v (omega (arith, x .3))
       (subst (λ y. Covers es (entry-at es (x .0) .round + 1) D y v) (c .from)
       (a (x .0) (x .1) o (c .exists) D v d s (c .likely) (subst (λ y. Waits M D y v d) (sym (c .from)) st) (c .guarded) (x .2))))

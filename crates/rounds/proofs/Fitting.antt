@@ -40,21 +40,21 @@ module _ (M : PlanMeaning) (L : Laws M) (f : ℕ) where
   across-fit : (e : Entry) → Fits M (e .zone) → (j : ℕ) → j < length (M .outcomes) → Each Fit (across M e (outcome-at M j))
   unfolding across Fit
   across-fit e fits j h =
-    let o = outcome-at M j in
-    cond-both (leb 1 (o .chance) && eqb (o .target) (e .position)) (step-start M e o ∷ []) [] (Each Fit)
+      let o = outcome-at M j in
+      cond-both (leb 1 (o .chance) && eqb (o .target) (e .position)) (step-start M e o ∷ []) [] (Each Fit)
       (λ _. (exact-fit (Crossing M (e .zone) o) (move-of M o .source) (L .sources-named j h) (step-zone M (e .zone) o) (step-exact M L (e .zone) fits j h), tt))
       (λ _. tt)
 
   after-fit : (r : ℕ) (e : Entry) → Fits M (e .zone) → Each Fit (after M r e)
   unfolding after
   after-fit r e fits = cond-both (eqb (e .round) r) (joined (across M e) (M .outcomes)) [] (Each Fit)
-    (λ _. joined-each Fit (across M e) no-outcome (M .outcomes) (λ j h. across-fit e fits j h))
-    (λ _. tt)
+      (λ _. joined-each Fit (across M e) no-outcome (M .outcomes) (λ j h. across-fit e fits j h))
+      (λ _. tt)
 
   all-fit : (g : ℕ) (es : List Entry) → ((k : ℕ) → k < length es → EntryOf M (entry-at es k)) → Each Fit (starts M g es)
   unfolding starts Fit
   all-fit zero es h = mapped-each Fit (goal-start M) no-goal (M .goals)
-    (λ j l. exact-fit (Arriving M (goal-at M j)) (goal-at M j .position) (L .goals-named j l) (goal-zone M (goal-at M j)) (goal-exact M L j l))
+      (λ j l. exact-fit (Arriving M (goal-at M j)) (goal-at M j .position) (L .goals-named j l) (goal-zone M (goal-at M j)) (goal-exact M L j l))
   all-fit (suc r) es h = joined-each Fit (after M r) no-entry es (λ k l. after-fit r (entry-at es k) (h k l .zone))
 
   each-at : (cs : List Start) → Each Fit cs → (k : ℕ) → k < length cs → Fit-start M f (start-at cs k .position) (start-at cs k .zone)

@@ -62,34 +62,34 @@ module _ (M : PlanMeaning) (need : Entry → ℕ) (room : ℕ) where
 
   shut-no : (f : ℕ) → (Closed-after M need room f → ⊥) → closed-after M need room f ≡ false
   shut-no f n = ⊎-elim {C = closed-after M need room f ≡ false}
-    (λ e. absurd (n (let a = and-parts (ltb 0 f) (eqb (length (held-after M need room f)) (length (held-after M need room (f - 1)))) e in
+      (λ e. absurd (n (let a = and-parts (ltb 0 f) (eqb (length (held-after M need room f)) (length (held-after M need room (f - 1)))) e in
       (ltb-true 0 f (a .0), eqb-true (length (held-after M need room f)) (length (held-after M need room (f - 1))) (a .1)))))
-    (λ e. e)
-    (cases-bool (closed-after M need room f))
+      (λ e. e)
+      (cases-bool (closed-after M need room f))
 
   holds-now : (ph : Phase) (es : List Entry) (left f b : ℕ) → Tracks ph es left f b → holding M need room f b ≡ es
   holds-now Open es left f b k =
-    cond-true (eqb b 0 || closed-after M need room f) (held-after M need room f) (held-after M need room (f + 1)) (or-left (eqb b 0) (closed-after M need room f) (eq-eqb b 0 (k .0)))
-    ∙ ap entries-of (k .1)
+      cond-true (eqb b 0 || closed-after M need room f) (held-after M need room f) (held-after M need room (f + 1)) (or-left (eqb b 0) (closed-after M need room f) (eq-eqb b 0 (k .0)))
+      ∙ ap entries-of (k .1)
   holds-now Closed es left f b k =
-    cond-true (eqb b 0 || closed-after M need room f) (held-after M need room f) (held-after M need room (f + 1)) (or-right (eqb b 0) (closed-after M need room f) (shut-yes f (k .0)))
-    ∙ k .1
+      cond-true (eqb b 0 || closed-after M need room f) (held-after M need room f) (held-after M need room (f + 1)) (or-right (eqb b 0) (closed-after M need room f) (shut-yes f (k .0)))
+      ∙ k .1
   holds-now Stopped es left f b k =
-    cond-false (eqb b 0 || closed-after M need room f) (held-after M need room f) (held-after M need room (f + 1))
+      cond-false (eqb b 0 || closed-after M need room f) (held-after M need room f) (held-after M need room (f + 1))
       (or-from (eqb b 0) (closed-after M need room f) (ne-eqb b 0 (λ e. let h = k .0 in omega arith)) (shut-no f (k .1)))
-    ∙ k .2
+      ∙ k .2
   holds-now Unfit es left f b k = absurd k
 
   round-is : (f : ℕ) (es : List Entry) (left : ℕ) → rounds-from M need room f ≡ done es left → rounds-from M need room (f + 1) ≡ round M need f es left
   round-is f es left q = rounds-next f ∙ ap (λ t. onward t (round M need f)) q
 
   last-put : (f : ℕ) (es fs : List Entry) (left last : ℕ) → rounds-from M need room f ≡ done es left → rounds-from M need room (f + 1) ≡ done fs last
-    → (length fs ≡ length es → Closed-after M need room (f + 1)) × (Closed-after M need room (f + 1) → length fs ≡ length es)
+      → (length fs ≡ length es → Closed-after M need room (f + 1)) × (Closed-after M need room (f + 1) → length fs ≡ length es)
   last-put f es fs left last q r =
-    let a : length (entries-of (rounds-from M need room (f + 1))) ≡ length fs = ap (λ t. length (entries-of t)) r in
-    let i : f + 1 - 1 ≡ f = omega arith in
-    let b : length (entries-of (rounds-from M need room (f + 1 - 1))) ≡ length es = ap (λ n. length (entries-of (rounds-from M need room n))) i ∙ ap (λ t. length (entries-of t)) q in
-    (λ e. (omega arith, a ∙ e ∙ sym b), λ c. sym a ∙ c .1 ∙ b)
+      let a : length (entries-of (rounds-from M need room (f + 1))) ≡ length fs = ap (λ t. length (entries-of t)) r in
+      let i : f + 1 - 1 ≡ f = omega arith in
+      let b : length (entries-of (rounds-from M need room (f + 1 - 1))) ≡ length es = ap (λ n. length (entries-of (rounds-from M need room n))) i ∙ ap (λ t. length (entries-of t)) q in
+      (λ e. (omega arith, a ∙ e ∙ sym b), λ c. sym a ∙ c .1 ∙ b)
 
   -- one call
   pub record Goes-on (c : Call) (f b : ℕ) (t : Step) : Type 0 where
@@ -100,9 +100,10 @@ module _ (M : PlanMeaning) (need : Entry → ℕ) (room : ℕ) where
   widen-goes f b es left k (done fs last) q = record {
     due = ((k .0, k .2), subst Ends-well (sym q) tt, refl);
     tracks = let p = last-put f es fs left last (k .1) q in
-      cond-both (eqb (length fs) (length es)) Closed Open (λ ph. Tracks ph fs last (f + 1) (b + 0))
+        cond-both (eqb (length fs) (length es)) Closed Open (λ ph. Tracks ph fs last (f + 1) (b + 0))
         (λ e. (p .0 (eqb-true (length fs) (length es) e), ap entries-of q))
-        (λ e. (omega (arith, k .0), q, λ c. eqb-false (length fs) (length es) e (p .1 c))) }
+        (λ e. (omega (arith, k .0), q, λ c. eqb-false (length fs) (length es) e (p .1 c)));
+  }
   widen-goes f b es left k (full fs last) q = record { due = ((k .0, k .2), subst Ends-full (sym q) tt); tracks = (omega arith, k .2, ap entries-of q) }
   widen-goes f b es left k (range fs last) q = record { due = ((k .0, k .2), subst Ends-range (sym q) tt); tracks = (omega arith, k .2, ap entries-of q) }
 
@@ -163,25 +164,25 @@ module _ (M : PlanMeaning) (need : Entry → ℕ) (room : ℕ) where
 
   module _ (keeps : Round-kept M need) (say : Answers-say M need) where
     due-from : (cs : List Call) (s : Search) (b : ℕ) → Stands M (s .entries) (s .rounds) (s .phase) → Tracks (s .phase) (s .entries) (s .room) (s .rounds) b → (i : ℕ) → i < length cs
-      → Due M need room (s .rounds + widens (take i (replies M need s cs))) (b + losses (take i cs) (take i (replies M need s cs))) (getD cs i widen) (getD (replies M need s cs) i (refused refusal.Phase))
+        → Due M need room (s .rounds + widens (take i (replies M need s cs))) (b + losses (take i cs) (take i (replies M need s cs))) (getD cs i widen) (getD (replies M need s cs) i (refused refusal.Phase))
     unfolding replies
     due-from [] s b w k i l = absurd (omega arith)
     due-from (c ∷ cs) s b w k zero l =
-      let g = step-goes s b k c (step-fine M need keeps say s w c .lawful) in
-      subst (λ f. Due M need room f (b + 0) c (step M need s c .reply)) (sym (add-zero (s .rounds)))
+        let g = step-goes s b k c (step-fine M need keeps say s w c .lawful) in
+        subst (λ f. Due M need room f (b + 0) c (step M need s c .reply)) (sym (add-zero (s .rounds)))
         (subst (λ x. Due M need room (s .rounds) x c (step M need s c .reply)) (sym (add-zero b)) (g .due))
     due-from (c ∷ cs) s b w k (suc i) l =
-      let t = step M need s c in
-      let fine = step-fine M need keeps say s w c in
-      let g = step-goes s b k c (fine .lawful) in
-      let rs = replies M need (t .next) cs in
-      let x = widens (take i rs) in
-      let y = losses (take i cs) (take i rs) in
-      subst (λ f. Due M need room f (b + (lost c (t .reply) + y)) (getD cs i widen) (getD rs i (refused refusal.Phase)))
+        let t = step M need s c in
+        let fine = step-fine M need keeps say s w c in
+        let g = step-goes s b k c (fine .lawful) in
+        let rs = replies M need (t .next) cs in
+        let x = widens (take i rs) in
+        let y = losses (take i cs) (take i rs) in
+        subst (λ f. Due M need room f (b + (lost c (t .reply) + y)) (getD cs i widen) (getD rs i (refused refusal.Phase)))
         (ap (λ n. n + x) (fine .rounds) ∙ add-assoc (s .rounds) (more (t .reply)) x)
         (subst (λ z. Due M need room (t .next .rounds + x) z (getD cs i widen) (getD rs i (refused refusal.Phase)))
-          (add-assoc b (lost c (t .reply)) y)
-          (due-from cs (t .next) (b + lost c (t .reply)) (fine .stands) (g .tracks) i (omega arith)))
+        (add-assoc b (lost c (t .reply)) y)
+        (due-from cs (t .next) (b + lost c (t .reply)) (fine .stands) (g .tracks) i (omega arith)))
 
 fresh-tracks : (M : PlanMeaning) (need : Entry → ℕ) (room : ℕ) → rounds-from M need room 0 ≡ done [] room
 unfolding rounds-from
@@ -189,8 +190,8 @@ fresh-tracks M need room = refl
 
 pub histories-due : (M : PlanMeaning) (need : Entry → ℕ) → Round-kept M need → Answers-say M need → Histories-due M need
 histories-due M need keeps say room cs i l =
-  let s = set-up true [] room in
-  let rs = replies M need s cs in
-  subst (λ f. Due M need room f (losses (take i cs) (take i rs)) (getD cs i widen) (getD rs i (refused refusal.Phase))) (zero-add (widens (take i rs)))
+    let s = set-up true [] room in
+    let rs = replies M need s cs in
+    subst (λ f. Due M need room f (losses (take i cs) (take i rs)) (getD cs i widen) (getD rs i (refused refusal.Phase))) (zero-add (widens (take i rs)))
     (subst (λ b. Due M need room (0 + widens (take i rs)) b (getD cs i widen) (getD rs i (refused refusal.Phase))) (zero-add (losses (take i cs) (take i rs)))
-      (due-from M need room keeps say cs s 0 (fresh-stands M need keeps say true [] room) (refl, fresh-tracks M need room, λ c. let h = c .0 in omega arith) i l))
+    (due-from M need room keeps say cs s 0 (fresh-stands M need keeps say true [] room) (refl, fresh-tracks M need room, λ c. let h = c .0 in omega arith) i l))

@@ -46,12 +46,14 @@ module _ (M : PlanMeaning) where
     good = record { fits = good .fits; real = good .real; ordered = good .ordered; at-most = λ k h. omega (arith, good .at-most k h) };
     based = λ _. r .0;
     stepped = λ k h l. elim (decLt k (length es)) [
-        yes y ↦ old-stepped f es fs g k y (
+      | yes y ↦ old-stepped f es fs g k y (
           elim (decLt (entry-at es k .round + 1) f) [
-            yes z ↦ stepped-mono f (entry-at es k) (entry-at es k .round + 1) es fs g (w .stepped k y z)
-          | no z ↦ (let q : entry-at es k .round + 1 ≡ f = omega (arith, z, b k y) in
-              subst (λ n. All-stepped M (entry-at es k) n fs) (sym q) (r .1 k y q)) ])
-      | no n ↦ absurd (let q = g .fresh k (omega (arith, n)) h in omega arith) ];
+            | yes z ↦ stepped-mono f (entry-at es k) (entry-at es k .round + 1) es fs g (w .stepped k y z)
+            | no z ↦ (let q : entry-at es k .round + 1 ≡ f = omega (arith, z, b k y) in
+                subst (λ n. All-stepped M (entry-at es k) n fs) (sym q) (r .1 k y q))
+          ])
+      | no n ↦ absurd (let q = g .fresh k (omega (arith, n)) h in omega arith)
+    ];
   }
 
   stop-sound : (f : ℕ) (es fs : List Entry) → Founded M es f → Good M fs f → Grown f es fs → Founded M fs f
@@ -59,19 +61,24 @@ module _ (M : PlanMeaning) where
     good = good;
     based = λ z. based-mono f es fs g (w .based z);
     stepped = λ k h l. elim (decLt k (length es)) [
-        yes y ↦ old-stepped f es fs g k y (stepped-mono f (entry-at es k) (entry-at es k .round + 1) es fs g
+      | yes y ↦ old-stepped f es fs g k y (stepped-mono f (entry-at es k) (entry-at es k .round + 1) es fs g
           (w .stepped k y (subst (λ (x : Entry). x .round + 1 < f) (g .begins k y .1) l)))
-      | no n ↦ absurd (let q = g .fresh k (omega (arith, n)) h in omega arith) ];
+      | no n ↦ absurd (let q = g .fresh k (omega (arith, n)) h in omega arith)
+    ];
   }
 
   done-stands : (f : ℕ) (es fs : List Entry) → Stands M es f Open → Good M fs f → Grown f es fs → Reached M f es fs → Stands M fs (f + 1) (phase-after (length es) (length fs))
   done-stands f es fs w good g r =
-    let s : Founded M fs (f + 1) = next-sound f es fs (w .0) (w .1) good g (forward f es fs (w .0) (w .1) g r) in
-    let b : Below fs (f + 1) = λ k h. omega (arith, good .at-most k h) in
-    cond-both (eqb (length fs) (length es)) Closed Open (Stands M fs (f + 1))
-      (λ e. let q : length fs ≡ length es = eqb-true (length fs) (length es) e in
-        (s, b, λ k h. s .stepped k h (let y : k < length es = omega arith in
-          let z : entry-at fs k .round ≡ entry-at es k .round = ap (λ (x : Entry). x .round) (g .begins k y .1) in omega (arith, w .1 k y)), omega arith))
+      let s : Founded M fs (f + 1) = next-sound f es fs (w .0) (w .1) good g (forward f es fs (w .0) (w .1) g r) in
+      let b : Below fs (f + 1) = λ k h. omega (arith, good .at-most k h) in
+      cond-both (eqb (length fs) (length es)) Closed Open (Stands M fs (f + 1))
+      (λ e. let q : length fs ≡ length es = eqb-true (length fs) (length es) e in (
+        s,
+        b,
+        λ k h. s .stepped k h (let y : k < length es = omega arith in
+            let z : entry-at fs k .round ≡ entry-at es k .round = ap (λ (x : Entry). x .round) (g .begins k y .1) in omega (arith, w .1 k y)),
+        omega arith,
+      ))
       (λ _. (s, b))
 
   pub leaves-rounded : (f : ℕ) (es : List Entry) → Stands M es f Open → (t : Turn) → Leaves M f es (Reached M f es) t → Rounded M f (length es) t

@@ -107,13 +107,15 @@ module _ (M : PlanMeaning) (K : Lawful (M .allows) (M .normal)) where
 
   cut-kept : (b : ClockBox) (z : List Code) → Fair (M .clocks) b → Fits M z → (o : Remains)
       → BoxSays (scales (M .allows)) (M .normal) (b .sides) z (left z o) (answered o) × Valid o → Exact M (λ D v. Held z D v × InBox b D v) o
-  cut-kept b z fair fits (kept ys) f = (record {
-        codes = f .1;
-        of-domain = f .0 .of-domain;
-        unasked = unasked-same (M .clocks) (at ys) (boxed (M .normal) (b .sides) (at z) 16) (f .0 .bounds)
-            (boxed-unasked (M .clocks) (M .normal) (normal-none laws-at) (b .sides) (fair .only) (at z) (fits .unasked) 16 (omega arith));
-      },
-      λ D v s. (λ h. let r = f .0 .states D (clock v) (on D s) .0 h in (r .0, sides-box b D v (r .1)), λ h. f .0 .states D (clock v) (on D s) .1 (h .0, box-sides b D v (h .1))))
+  cut-kept b z fair fits (kept ys) f = (
+    record {
+      codes = f .1;
+      of-domain = f .0 .of-domain;
+      unasked = unasked-same (M .clocks) (at ys) (boxed (M .normal) (b .sides) (at z) 16) (f .0 .bounds)
+          (boxed-unasked (M .clocks) (M .normal) (normal-none laws-at) (b .sides) (fair .only) (at z) (fits .unasked) 16 (omega arith));
+    },
+    λ D v s. (λ h. let r = f .0 .states D (clock v) (on D s) .0 h in (r .0, sides-box b D v (r .1)), λ h. f .0 .states D (clock v) (on D s) .1 (h .0, box-sides b D v (h .1))),
+  )
   cut-kept b z fair fits empty f = λ D v s h. f .0 .gone D (clock v) (on D s) (h .0) (box-sides b D v (h .1))
   cut-kept b z fair fits beyond f = tt
 
@@ -121,26 +123,43 @@ module _ (M : PlanMeaning) (K : Lawful (M .allows) (M .normal)) where
   leads-earlier z D v l =
       let m = l .0 in
       let n = natural (l .1 .0) (l .1 .1 .2) in
-      ∣ (l .0, n .0, l .1 .1 .0, scale-allowed (M .allows) (l .0 * D) (l .1 .1 .1),
+      ∣ (
+        l .0,
+        n .0,
+        l .1 .1 .0,
+        scale-allowed (M .allows) (l .0 * D) (l .1 .1 .1),
         holds-same (at z) (l .0 * D) (zone-later (l .0) (l .1 .0) (clock v)) (clock (later (n .0) (scaled (l .0) v)))
-        (λ i. ap (λ w. zone-later (l .0) w (clock v) i) (n .1) ∙ sym (clock-later (l .0) (n .0) v i)) (l .1 .1 .3)) ∣₁
+            (λ i. ap (λ w. zone-later (l .0) w (clock v) i) (n .1) ∙ sym (clock-later (l .0) (n .0) v i)) (l .1 .1 .3),
+      ) ∣₁
 
   earlier-leads : (z : List Code) (D : ℕ) (v : ℕ → ℕ) → 1 ≤ D
       → ((m : ℕ) × (w : ℕ) × (1 ≤ m) × (M .allows (m * D) ≡ true) × Held z (m * D) (later w (scaled m v))) → Leads (scales (M .allows)) z D (clock v)
-  earlier-leads z D v h t =
-      (t .0, (pos (t .1), (t .2, scale-is (M .allows) (t .0 * D) (times-some (t .0) D (t .2) h) (t .3), omega (arith, ints),
-        holds-same (at z) (t .0 * D) (clock (later (t .1) (scaled (t .0) v))) (zone-later (t .0) (pos (t .1)) (clock v)) (clock-later (t .0) (t .1) v) (t .4))))
+  earlier-leads z D v h t = (
+    t .0,
+    (
+      pos (t .1),
+      (
+        t .2,
+        scale-is (M .allows) (t .0 * D) (times-some (t .0) D (t .2) h) (t .3),
+        omega (arith, ints),
+        holds-same (at z) (t .0 * D) (clock (later (t .1) (scaled (t .0) v))) (zone-later (t .0) (pos (t .1)) (clock v)) (clock-later (t .0) (t .1) v) (t .4),
+      ),
+    ),
+  )
 
   back-kept : (z ys : List Code) → Fits M z → ZoneCodes ys → BackDone (scales (M .allows)) (M .normal) z ys → Exact M (Earlier M (Held z)) (kept ys)
-  back-kept z ys fits c b = (record {
-        codes = c;
-        of-domain = b .of-domain;
-        unasked = unasked-same (M .clocks) (at ys) (back-at (at z)) (b .bounds) (back-unasked (M .clocks) (at z) (fits .codes .sound .canon) (fits .unasked));
-      },
-      λ D v s. (
-        λ h. leads-earlier z D v (b .states D (clock v) (on D s) (clock-readings v) .0 h),
-        λ h. holds-yes ys D (clock v) (∥∥₁-elim h (hedberg Bool-discrete (holds-zone ys D (clock v)) true)
-            (λ t. yes-holds ys D (clock v) (b .states D (clock v) (on D s) (clock-readings v) .1 (earlier-leads z D v (s .0) t))))))
+  back-kept z ys fits c b = (
+    record {
+      codes = c;
+      of-domain = b .of-domain;
+      unasked = unasked-same (M .clocks) (at ys) (back-at (at z)) (b .bounds) (back-unasked (M .clocks) (at z) (fits .codes .sound .canon) (fits .unasked));
+    },
+    λ D v s. (
+      λ h. leads-earlier z D v (b .states D (clock v) (on D s) (clock-readings v) .0 h),
+      λ h. holds-yes ys D (clock v) (∥∥₁-elim h (hedberg Bool-discrete (holds-zone ys D (clock v)) true)
+          (λ t. yes-holds ys D (clock v) (b .states D (clock v) (on D s) (clock-readings v) .1 (earlier-leads z D v (s .0) t)))),
+    ),
+  )
 
   back-is : (z : List Code) → Fits M z → Exact M (Earlier M (Held z)) (back-zone z)
   back-is z fits =
@@ -149,17 +168,20 @@ module _ (M : PlanMeaning) (K : Lawful (M .allows) (M .normal)) where
 
   undo-kept : (rs : List Bool) (z : List Code) → Named (M .clocks) rs → Fits M z → (o : Remains) → Undoes (scales (M .allows)) (M .normal) (resets-of rs) z o → Exact M (λ D v. Held z D (reset rs v)) o
   undo-kept rs z named fits (kept ys) u = (
-      record { codes = u .codes; of-domain = u .of-domain; unasked = u .unasked (M .clocks) (named .off) (fits .unasked) },
-      λ D v s. (
-        λ h. holds-same (at z) D (λ k. clock v (zeroed (resets-of rs) k)) (clock (reset rs v)) (λ i. sym (clock-reset rs v i)) (u .states D (clock v) (on D s) (clock-readings v) .0 h),
-        λ h. u .states D (clock v) (on D s) (clock-readings v) .1 (holds-same (at z) D (clock (reset rs v)) (λ k. clock v (zeroed (resets-of rs) k)) (clock-reset rs v) h)))
+    record { codes = u .codes; of-domain = u .of-domain; unasked = u .unasked (M .clocks) (named .off) (fits .unasked) },
+    λ D v s. (
+      λ h. holds-same (at z) D (λ k. clock v (zeroed (resets-of rs) k)) (clock (reset rs v)) (λ i. sym (clock-reset rs v i)) (u .states D (clock v) (on D s) (clock-readings v) .0 h),
+      λ h. u .states D (clock v) (on D s) (clock-readings v) .1 (holds-same (at z) D (clock (reset rs v)) (λ k. clock v (zeroed (resets-of rs) k)) (clock-reset rs v) h),
+    ),
+  )
   undo-kept rs z named fits empty u = λ D v s h. u D (clock v) (on D s) (clock-readings v) (holds-same (at z) D (clock (reset rs v)) (λ k. clock v (zeroed (resets-of rs) k)) (clock-reset rs v) h)
   undo-kept rs z named fits beyond u = tt
 
   invariant-fair : WellFormed M → (p : ℕ) → Fair (M .clocks) (invariant-of M p)
   invariant-fair f p = elim (decLt (p - 1) (length (M .positions))) [
-      yes y ↦ box-fair (M .clocks) (invariant-of M p) (f .positions (p - 1) y)
-    | no n ↦ subst (λ x. Fair (M .clocks) (x .invariant)) (sym (List·getD-eq-default (M .positions) no-position {n = p - 1} (omega (arith, n)))) (none-fair (M .clocks)) ]
+    | yes y ↦ box-fair (M .clocks) (invariant-of M p) (f .positions (p - 1) y)
+    | no n ↦ subst (λ x. Fair (M .clocks) (x .invariant)) (sym (List·getD-eq-default (M .positions) no-position {n = p - 1} (omega (arith, n)))) (none-fair (M .clocks))
+  ]
 
   move-there : (f : WellFormed M) (j : ℕ) → j < length (M .outcomes) → outcome-at M j .cause - 1 < length (M .moves)
   move-there f j h = let c = f .outcomes j h .cause in omega (arith, c .0, c .1)

@@ -18,10 +18,10 @@ use Rattle.rounds.proofs.Causes.{tries-because}
 
 -- one more entry looked at
 pub covering-more : (es : List Entry) (p : ℕ) (z : List Code) (i : ℕ) (e : Entry) → i < length es → e ≡ entry-at es i
-  → covering (drop i es) p z ≡ ((eqb (e .position) p && within-zone z (e .zone)) || covering (drop (i + 1) es) p z)
+    → covering (drop i es) p z ≡ ((eqb (e .position) p && within-zone z (e .zone)) || covering (drop (i + 1) es) p z)
 unfolding covering
 covering-more es p z i e h q =
-  at-drop-more (λ xs. covering xs p z) es i no-entry h ∙ ap (λ (x : Entry). (eqb (x .position) p && within-zone z (x .zone)) || covering (drop (i + 1) es) p z) (sym q)
+    at-drop-more (λ xs. covering xs p z) es i no-entry h ∙ ap (λ (x : Entry). (eqb (x .position) p && within-zone z (x .zone)) || covering (drop (i + 1) es) p z) (sym q)
 
 pub covering-all : (es : List Entry) (p : ℕ) (z : List Code) (i : ℕ) → length es ≤ i → covering (drop i es) p z ≡ false
 unfolding covering
@@ -29,7 +29,7 @@ covering-all es p z i h = at-drop-all (λ xs. covering xs p z) es i h
 
 module _ (need : Entry → ℕ) (f : ℕ) where
   onward-append : (cs ds : List Start) → ((es : List Entry) (room : ℕ) → tries need f (cs ++ ds) es room ≡ onward (tries need f cs es room) (tries need f ds))
-    → (t : Turn) → onward t (tries need f (cs ++ ds)) ≡ onward (onward t (tries need f cs)) (tries need f ds)
+      → (t : Turn) → onward t (tries need f (cs ++ ds)) ≡ onward (onward t (tries need f cs)) (tries need f ds)
   onward-append cs ds h (done es room) = h es room
   onward-append cs ds h (full es room) = refl
   onward-append cs ds h (range es room) = refl
@@ -54,7 +54,7 @@ module _ (need : Entry → ℕ) (f : ℕ) where
 
   -- one more item of a list that starts are mapped from
   pub mapped-more : {X : Type 0} (h : X → Start) (d : X) (xs : List X) (i : ℕ) (es : List Entry) (room : ℕ) → i < length xs
-    → tries need f (map h (drop i xs)) es room ≡ onward (tried need f (h (getD xs i d) .position) (h (getD xs i d) .zone) es room) (tries need f (map h (drop (i + 1) xs)))
+      → tries need f (map h (drop i xs)) es room ≡ onward (tried need f (h (getD xs i d) .position) (h (getD xs i d) .zone) es room) (tries need f (map h (drop (i + 1) xs)))
   unfolding tries
   mapped-more h d xs i es room l = at-drop-more (λ ys. tries need f (map h ys) es room) xs i d l
 
@@ -64,7 +64,7 @@ module _ (need : Entry → ℕ) (f : ℕ) where
 
   -- one more item of a list that starts are joined from
   pub joined-more : {X : Type 0} (h : X → List Start) (d : X) (xs : List X) (i : ℕ) (es : List Entry) (room : ℕ) → i < length xs
-    → tries need f (joined h (drop i xs)) es room ≡ onward (tries need f (h (getD xs i d)) es room) (tries need f (joined h (drop (i + 1) xs)))
+      → tries need f (joined h (drop i xs)) es room ≡ onward (tries need f (h (getD xs i d)) es room) (tries need f (joined h (drop (i + 1) xs)))
   joined-more h d xs i es room l = at-drop-more (λ ys. tries need f (joined h ys) es room) xs i d l ∙ tries-append (h (getD xs i d)) (joined h (drop (i + 1) xs)) es room
 
   pub joined-all : {X : Type 0} (h : X → List Start) (xs : List X) (i : ℕ) (es : List Entry) (room : ℕ) → length xs ≤ i → tries need f (joined h (drop i xs)) es room ≡ done es room
@@ -74,7 +74,7 @@ module _ (need : Entry → ℕ) (f : ℕ) where
   -- the entries before are still there
   spent-begins : (es : List Entry) (room : ℕ) (fs : List Entry) (left : ℕ) → Spent need es room fs left → (k : ℕ) → k < length es → (k < length fs) × (entry-at fs k ≡ entry-at es k)
   spent-begins es room fs left s k h =
-    (omega (arith, ap length (s .1), length-append es (s .0)), ap (λ xs. entry-at xs k) (s .1) ∙ getD-append-left es (s .0) no-entry k h)
+      (omega (arith, ap length (s .1), length-append es (s .0)), ap (λ xs. entry-at xs k) (s .1) ∙ getD-append-left es (s .0) no-entry k h)
 
   pub tries-begins : (cs : List Start) (es : List Entry) (room : ℕ) (fs : List Entry) (left : ℕ) → done fs left ≡ tries need f cs es room → (k : ℕ) → k < length es → (k < length fs) × (entry-at fs k ≡ entry-at es k)
   tries-begins cs es room fs left q = spent-begins es room fs left (subst (Because need f cs es room) (sym q) (tries-because need f cs es room) .0)

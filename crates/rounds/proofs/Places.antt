@@ -94,8 +94,9 @@ half-is (negsuc n) h k = omega (arith, ints)
 in-range : (s : Bool) (c : ℤ) → (Beyond (upto s c) → ⊥) → (negsuc 999999 ≤ℤ c) × (c ≤ℤ pos 1000000)
 unfolding Beyond
 in-range s c n = (
-    by-ltZ c (negsuc 999999) (λ h. absurd (n (inl h))) (λ h. h),
-    by-ltZ (pos 1000000) c (λ h. absurd (n (inr h))) (λ h. h))
+  by-ltZ c (negsuc 999999) (λ h. absurd (n (inl h))) (λ h. h),
+  by-ltZ (pos 1000000) c (λ h. absurd (n (inr h))) (λ h. h),
+)
 
 module _ {allows : ℕ → Bool} {normal : UpperBound → UpperBound} (K : ScaleLaws allows normal) where
   coded-fits : (b l : UpperBound) → l ≡ normal b → (Beyond b → ⊥) → CodeOf l (coded l)

@@ -71,23 +71,23 @@ module _ (M : PlanMeaning) (need : Entry → ℕ) (kept : Round-kept M need) (sa
 
   asked-lawful : (s : Search) → (s .phase ≡ Unfit → ⊥) → Stands M (s .entries) (s .rounds) (s .phase) → (D p : ℕ) (rs : List ℕ) → Replied M need s (s .rounds) (ask D p rs) (asked M s D p rs)
   asked-lawful s n w D p rs =
-    cond-both (askable M D p rs) (told (answer (s .phase) (s .rounds) (find (s .entries) D p (value-of rs)))) (refused refusal.State) (Replied M need s (s .rounds) (ask D p rs))
+      cond-both (askable M D p rs) (told (answer (s .phase) (s .rounds) (find (s .entries) D p (value-of rs)))) (refused refusal.State) (Replied M need s (s .rounds) (ask D p rs))
       (λ t. let a = askable-yes M D p rs t in (n, a, say (s .entries) (s .rounds) (s .phase) n w D p (value-of rs) (a .scale, a .allowed)))
       (λ t. (n, λ a. both-ways (askable M D p rs) t (yes-askable M D p rs a)))
 
   asked-rounds : (s : Search) (D p : ℕ) (rs : List ℕ) → s .rounds ≡ s .rounds + more (asked M s D p rs)
   asked-rounds s D p rs = cond-both (askable M D p rs) (told (answer (s .phase) (s .rounds) (find (s .entries) D p (value-of rs)))) (refused refusal.State) (λ r. s .rounds ≡ s .rounds + more r)
-    (λ _. sym (add-zero (s .rounds))) (λ _. sym (add-zero (s .rounds)))
+      (λ _. sym (add-zero (s .rounds))) (λ _. sym (add-zero (s .rounds)))
 
   listing-lawful : (s : Search) → (s .phase ≡ Unfit → ⊥) → (k : ℕ) → Replied M need s (s .rounds) (list k) (listing (s .entries) k)
   listing-lawful s n k =
-    cond-both (leb 1 k && leb k (length (s .entries))) (listed (entry-at (s .entries) (k - 1))) (refused refusal.Entry) (Replied M need s (s .rounds) (list k))
+      cond-both (leb 1 k && leb k (length (s .entries))) (listed (entry-at (s .entries) (k - 1))) (refused refusal.Entry) (Replied M need s (s .rounds) (list k))
       (λ t. let a = and-parts (leb 1 k) (leb k (length (s .entries))) t in (n, leb-true 1 k (a .0), leb-true k (length (s .entries)) (a .1), refl))
       (λ t. (n, λ h. ⊎-elim {C = length (s .entries) < k} (λ a. absurd (let l = leb-false 1 k a in omega arith)) (λ a. leb-false k (length (s .entries)) a) (and-cases (leb 1 k) (leb k (length (s .entries))) t)))
 
   listing-rounds : (s : Search) (k : ℕ) → s .rounds ≡ s .rounds + more (listing (s .entries) k)
   listing-rounds s k = cond-both (leb 1 k && leb k (length (s .entries))) (listed (entry-at (s .entries) (k - 1))) (refused refusal.Entry) (λ r. s .rounds ≡ s .rounds + more r)
-    (λ _. sym (add-zero (s .rounds))) (λ _. sym (add-zero (s .rounds)))
+      (λ _. sym (add-zero (s .rounds))) (λ _. sym (add-zero (s .rounds)))
 
   pub Sane : Search → Type 0
   Sane s = Stands M (s .entries) (s .rounds) (s .phase)
@@ -155,30 +155,33 @@ module _ (M : PlanMeaning) (need : Entry → ℕ) (kept : Round-kept M need) (sa
 
   -- any list of calls
   law-from : (cs : List Call) (s : Search) → Stands M (s .entries) (s .rounds) (s .phase) → (i : ℕ) → i < length cs
-    → Replied M need (left-by M need s (take i cs)) (s .rounds + widens (take i (replies M need s cs))) (getD cs i widen) (getD (replies M need s cs) i (refused refusal.Phase))
+      → Replied M need (left-by M need s (take i cs)) (s .rounds + widens (take i (replies M need s cs))) (getD cs i widen) (getD (replies M need s cs) i (refused refusal.Phase))
   unfolding replies left-by
   law-from [] s w i l = absurd (omega arith)
   law-from (c ∷ cs) s w zero l =
-    subst (λ f. Replied M need s f c (step M need s c .reply)) (sym (add-zero (s .rounds))) (step-fine s w c .lawful)
+      subst (λ f. Replied M need s f c (step M need s c .reply)) (sym (add-zero (s .rounds))) (step-fine s w c .lawful)
   law-from (c ∷ cs) s w (suc i) l =
-    let t = step M need s c in
-    let x = widens (take i (replies M need (t .next) cs)) in
-    subst (λ f. Replied M need (left-by M need (t .next) (take i cs)) f (getD cs i widen) (getD (replies M need (t .next) cs) i (refused refusal.Phase)))
+      let t = step M need s c in
+      let x = widens (take i (replies M need (t .next) cs)) in
+      subst (λ f. Replied M need (left-by M need (t .next) (take i cs)) f (getD cs i widen) (getD (replies M need (t .next) cs) i (refused refusal.Phase)))
       (ap (λ n. n + x) (step-fine s w c .rounds) ∙ add-assoc (s .rounds) (more (t .reply)) x)
       (law-from cs (t .next) (step-fine s w c .stands) i (omega arith))
 
   pub fresh-stands : (same : Bool) (es : List Entry) (room : ℕ) → Stands M es 0 (set-up same es room .phase)
   fresh-stands same es room =
-    cond-both (same && eqb (length es) 0) Open Unfit (Stands M es 0)
-      (λ t. let z : length es ≡ 0 = eqb-true (length es) 0 (and-parts same (eqb (length es) 0) t .1) in
-        (record {
+      cond-both (same && eqb (length es) 0) Open Unfit (Stands M es 0)
+      (λ t. let z : length es ≡ 0 = eqb-true (length es) 0 (and-parts same (eqb (length es) 0) t .1) in (
+        record {
           good = record { fits = λ k h. absurd (omega arith); real = λ k h. absurd (omega arith); ordered = λ i j a h. absurd (omega arith); at-most = λ k h. absurd (omega arith) };
           based = λ h. absurd (omega arith);
-          stepped = λ k h. absurd (omega arith) }, λ k h. absurd (omega arith)))
+          stepped = λ k h. absurd (omega arith);
+        },
+        λ k h. absurd (omega arith),
+      ))
       (λ _. tt)
 
   pub runs-lawful : Runs-lawful M need
   runs-lawful same es room cs i l =
-    subst (λ f. Replied M need (left-by M need (set-up same es room) (take i cs)) f (getD cs i widen) (getD (replies M need (set-up same es room) cs) i (refused refusal.Phase)))
+      subst (λ f. Replied M need (left-by M need (set-up same es room) (take i cs)) f (getD cs i widen) (getD (replies M need (set-up same es room) cs) i (refused refusal.Phase)))
       (zero-add (widens (take i (replies M need (set-up same es room) cs))))
       (law-from cs (set-up same es room) (fresh-stands same es room) i l)

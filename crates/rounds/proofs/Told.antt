@@ -49,16 +49,17 @@ pub found : (es : List Entry) (D p : ℕ) (v : ℕ → ℕ) → Found es D p v (
 unfolding find
 found [] D p v = λ j h. absurd (omega arith)
 found (e ∷ es) D p v =
-  cond-both (eqb (e .position) p && holds-state (e .zone) D v) (Some (e .round)) (find es D p v) (Found (e ∷ es) D p v)
+    cond-both (eqb (e .position) p && holds-state (e .zone) D v) (Some (e .round)) (find es D p v) (Found (e ∷ es) D p v)
     (λ t. let b = and-parts (eqb (e .position) p) (holds-state (e .zone) D v) t in (0, omega arith, (eqb-true (e .position) p (b .0), holds-yes (e .zone) D (clock v) (b .1)), (λ j l. absurd (omega arith)), refl))
     (λ t. found-more e es D p v (not-in e D p v t) (find es D p v) (found es D p v))
 
 module _ (M : PlanMeaning) (es : List Entry) (f : ℕ) (w : Founded M es f) where
   first-least : (D p : ℕ) (v : ℕ → ℕ) (k n : ℕ) → k < length es → ((j : ℕ) → j < k → In (entry-at es j) D p v → ⊥) → Covers es n D p v → entry-at es k .round ≤ n
   first-least D p v k n l first c =
-    ∥∥₁-elim c le-prop (λ t. elim (decLt (t .0) k) [
-      yes y ↦ absurd (first (t .0) y (t .2))
-    | no y ↦ omega (arith, w .good .ordered k (t .0) (omega (arith, y)) (t .1), t .3) ])
+      ∥∥₁-elim c le-prop (λ t. elim (decLt (t .0) k) [
+        | yes y ↦ absurd (first (t .0) y (t .2))
+        | no y ↦ omega (arith, w .good .ordered k (t .0) (omega (arith, y)) (t .1), t .3)
+      ])
 
   pub real-at : (D p : ℕ) (v : ℕ → ℕ) → Scale M D → (k : ℕ) → k < length es → In (entry-at es k) D p v → ∥ Route M D p v (entry-at es k .round) ∥₁
   real-at D p v s k l i = subst (λ x. ∥ Route M D x v (entry-at es k .round) ∥₁) (i .0) (w .good .real k l D v s (i .1))
@@ -67,16 +68,19 @@ module _ (M : PlanMeaning) (es : List Entry) (f : ℕ) (w : Founded M es f) wher
   told-some D p v s d x = subst (Distance M D p v) (sym (x .4)) (record {
     route = real-at D p v s (x .0) (x .1) (x .2);
     least = λ n r. elim (decLt n f) [
-        yes y ↦ first-least D p v (x .0) n (x .1) (x .3) (route-covered M es f w D p v n s r y)
-      | no y ↦ omega (arith, y, w .good .at-most (x .0) (x .1)) ] })
+      | yes y ↦ first-least D p v (x .0) n (x .1) (x .3) (route-covered M es f w D p v n s r y)
+      | no y ↦ omega (arith, y, w .good .at-most (x .0) (x .1))
+    ];
+  })
 
   none-covers : (D p : ℕ) (v : ℕ → ℕ) (n : ℕ) → Found es D p v None → Covers es n D p v → ⊥
   none-covers D p v n none c = ∥∥₁-elim c (λ x y. absurd x) (λ t. none (t .0) (t .1) (t .2))
 
   pub told-untold : (D p : ℕ) (v : ℕ → ℕ) → Scale M D → Found es D p v None → (n : ℕ) → Route M D p v n → f ≤ n
   told-untold D p v s none n r = elim (decLt n f) [
-      yes y ↦ absurd (none-covers D p v n none (route-covered M es f w D p v n s r y))
-    | no y ↦ omega (arith, y) ]
+    | yes y ↦ absurd (none-covers D p v n none (route-covered M es f w D p v n s r y))
+    | no y ↦ omega (arith, y)
+  ]
 
   pub told-never : (D p : ℕ) (v : ℕ → ℕ) → Scale M D → 0 < f → Complete M es → Found es D p v None → (n : ℕ) → Route M D p v n → ⊥
   told-never D p v s z a none n r = none-covers D p v n none (route-complete M es (w .based z) a D p v n s r)
@@ -102,6 +106,7 @@ module _ (M : PlanMeaning) where
 
   pub held-exactly : (need : Entry → ℕ) → Held-exactly M need
   held-exactly need es f ph n w k D p v l s =
-    let d = sound-of es f ph n w in
-    (λ c. ∥∥₁-elim c ∥∥₁-prop (λ t. ∥∥₁-map (real-at M es f d D p v s (t .0) (t .1) (t .2)) (λ r. (entry-at es (t .0) .round, t .3, r))),
-     λ c. ∥∥₁-elim c ∥∥₁-prop (λ t. ∥∥₁-map (route-covered M es f d D p v (t .0) s (t .2) (omega (arith, t .1))) (λ x. (x .0, x .1, x .2, omega (arith, x .3, t .1)))))
+      let d = sound-of es f ph n w in (
+        λ c. ∥∥₁-elim c ∥∥₁-prop (λ t. ∥∥₁-map (real-at M es f d D p v s (t .0) (t .1) (t .2)) (λ r. (entry-at es (t .0) .round, t .3, r))),
+        λ c. ∥∥₁-elim c ∥∥₁-prop (λ t. ∥∥₁-map (route-covered M es f d D p v (t .0) s (t .2) (omega (arith, t .1))) (λ x. (x .0, x .1, x .2, omega (arith, x .3, t .1)))),
+      )

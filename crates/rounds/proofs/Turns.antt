@@ -61,25 +61,25 @@ module _ (M : PlanMeaning) where
   catches-mono f es fs p beyond g c = c
 
   put-leaves : (L : Laws M) (need : Entry → ℕ) (f p room : ℕ) (z : List Code) (es : List Entry) → Good M es f → Backed M f p (kept z)
-    → Leaves M f es (λ fs. Catches M f fs p (kept z)) (put need es room (record { position = p; round = f; zone = z }))
+      → Leaves M f es (λ fs. Catches M f fs p (kept z)) (put need es room (record { position = p; round = f; zone = z }))
   unfolding put
   put-leaves L need f p room z es g b =
-    let e : Entry = record { position = p; round = f; zone = z } in
-    cond-both (leb (need e) room) (done (es ++ (e ∷ [])) (room - need e)) (full es room) (Leaves M f es (λ fs. Catches M f fs p (kept z)))
+      let e : Entry = record { position = p; round = f; zone = z } in
+      cond-both (leb (need e) room) (done (es ++ (e ∷ [])) (room - need e)) (full es room) (Leaves M f es (λ fs. Catches M f fs p (kept z)))
       (λ _. (good-push M es f e g (b .0) (b .1) refl, grown-push f es e refl, λ D v s h. push-covers es e f D v (omega arith) h))
       (λ _. (g, grown-refl f es))
 
   offer-leaves : (L : Laws M) (need : Entry → ℕ) (f p room : ℕ) (z : List Code) (es : List Entry) → Good M es f → Backed M f p (kept z)
-    → Leaves M f es (λ fs. Catches M f fs p (kept z)) (offer need f p z es room)
+      → Leaves M f es (λ fs. Catches M f fs p (kept z)) (offer need f p z es room)
   unfolding offer
   offer-leaves L need f p room z es g b =
-    cond-both (covering es p z) (done es room) (put need es room (record { position = p; round = f; zone = z })) (Leaves M f es (λ fs. Catches M f fs p (kept z)))
+      cond-both (covering es p z) (done es room) (put need es room (record { position = p; round = f; zone = z })) (Leaves M f es (λ fs. Catches M f fs p (kept z)))
       (λ h. let c = covering-one es p z h in
-        (g, grown-refl f es, λ D v s x. ∣ (c .0, c .1, (c .2, L .within-exact z (entry-at es (c .0) .zone) (b .0 .zone) (g .fits (c .0) (c .1) .zone) (c .3) D v s x), g .at-most (c .0) (c .1)) ∣₁))
+      (g, grown-refl f es, λ D v s x. ∣ (c .0, c .1, (c .2, L .within-exact z (entry-at es (c .0) .zone) (b .0 .zone) (g .fits (c .0) (c .1) .zone) (c .3) D v s x), g .at-most (c .0) (c .1)) ∣₁))
       (λ _. put-leaves L need f p room z es g b)
 
   pub tried-leaves : (L : Laws M) (need : Entry → ℕ) (f p room : ℕ) (o : Remains) (es : List Entry) → Good M es f → Backed M f p o
-    → Leaves M f es (λ fs. Catches M f fs p o) (tried need f p o es room)
+      → Leaves M f es (λ fs. Catches M f fs p o) (tried need f p o es room)
   unfolding tried
   tried-leaves L need f p room (kept z) es g b = offer-leaves L need f p room z es g b
   tried-leaves L need f p room empty es g b = (g, grown-refl f es, tt)
@@ -92,17 +92,17 @@ module _ (M : PlanMeaning) where
   leaves-after f es fs C D E g c j (range gs room) l = (l .0, grown-trans f es fs gs g (l .1))
 
   pub leaves-onward : (f : ℕ) (es : List Entry) (C D E : List Entry → Type 0) (k : List Entry → ℕ → Turn) → ((fs : List Entry) (room : ℕ) → Good M fs f → Leaves M f fs D (k fs room))
-    → ((fs gs : List Entry) → Grown f fs gs → C fs → D gs → E gs) → (t : Turn) → Leaves M f es C t → Leaves M f es E (onward t k)
+      → ((fs gs : List Entry) → Grown f fs gs → C fs → D gs → E gs) → (t : Turn) → Leaves M f es C t → Leaves M f es E (onward t k)
   leaves-onward f es C D E k h j (done fs room) l = leaves-after f es fs C D E (l .1) (l .2) (j fs) (k fs room) (h fs room (l .0))
   leaves-onward f es C D E k h j (full fs room) l = l
   leaves-onward f es C D E k h j (range fs room) l = l
 
   pub tries-leaves : (L : Laws M) (need : Entry → ℕ) (f : ℕ) (cs : List Start) → Each (λ c. Backed M f (c .position) (c .zone)) cs → (es : List Entry) (room : ℕ) → Good M es f
-    → Leaves M f es (λ fs. Each (λ c. Catches M f fs (c .position) (c .zone)) cs) (tries need f cs es room)
+      → Leaves M f es (λ fs. Each (λ c. Catches M f fs (c .position) (c .zone)) cs) (tries need f cs es room)
   unfolding tries
   tries-leaves L need f [] b es room g = (g, grown-refl f es, tt)
   tries-leaves L need f (c ∷ cs) b es room g =
-    leaves-onward f es (λ fs. Catches M f fs (c .position) (c .zone)) (λ fs. Each (λ x. Catches M f fs (x .position) (x .zone)) cs) (λ fs. Each (λ x. Catches M f fs (x .position) (x .zone)) (c ∷ cs))
+      leaves-onward f es (λ fs. Catches M f fs (c .position) (c .zone)) (λ fs. Each (λ x. Catches M f fs (x .position) (x .zone)) cs) (λ fs. Each (λ x. Catches M f fs (x .position) (x .zone)) (c ∷ cs))
       (tries need f cs) (λ fs r h. tries-leaves L need f cs (b .1) fs r h)
       (λ fs gs w x y. (catches-mono f fs gs (c .position) (c .zone) w x, y))
       (tried need f (c .position) (c .zone) es room) (tried-leaves L need f (c .position) room (c .zone) es g (b .0))
@@ -110,27 +110,29 @@ module _ (M : PlanMeaning) where
   -- what round f tries is backed
   goals-backed : (L : Laws M) → Each (λ c. Backed M 0 (c .position) (c .zone)) (map (goal-start M) (M .goals))
   goals-backed L = mapped-each (λ c. Backed M 0 (c .position) (c .zone)) (goal-start M) no-goal (M .goals)
-    (λ j h. backed-of (Arriving M (goal-at M j)) 0 (goal-at M j .position) (L .goals-named j h) (λ D v s a. goal-route M L j h D v a) (goal-zone M (goal-at M j)) (goal-exact M L j h))
+      (λ j h. backed-of (Arriving M (goal-at M j)) 0 (goal-at M j .position) (L .goals-named j h) (λ D v s a. goal-route M L j h D v a) (goal-zone M (goal-at M j)) (goal-exact M L j h))
 
   across-backed : (L : Laws M) → (e : Entry) → Fits M (e .zone) → Real M e → (j : ℕ) → j < length (M .outcomes)
-    → Each (λ c. Backed M (suc (e .round)) (c .position) (c .zone)) (across M e (outcome-at M j))
+      → Each (λ c. Backed M (suc (e .round)) (c .position) (c .zone)) (across M e (outcome-at M j))
   unfolding across
   across-backed L e fit real j h =
-    let o = outcome-at M j in
-    cond-both (leb 1 (o .chance) && eqb (o .target) (e .position)) (step-start M e o ∷ []) [] (Each (λ c. Backed M (suc (e .round)) (c .position) (c .zone)))
-      (λ t. let b = and-parts (leb 1 (o .chance)) (eqb (o .target) (e .position)) t in
-        (backed-of (Crossing M (e .zone) o) (suc (e .round)) (move-of M o .source) (L .sources-named j h)
-          (λ D v s a. step-route M L j h (leb-true 1 (o .chance) (b .0)) e (eqb-true (o .target) (e .position) (b .1)) real D v s a)
-          (step-zone M (e .zone) o) (step-exact M L (e .zone) fit j h), tt))
+      let o = outcome-at M j in
+      cond-both (leb 1 (o .chance) && eqb (o .target) (e .position)) (step-start M e o ∷ []) [] (Each (λ c. Backed M (suc (e .round)) (c .position) (c .zone)))
+      (λ t. let b = and-parts (leb 1 (o .chance)) (eqb (o .target) (e .position)) t in (
+        backed-of (Crossing M (e .zone) o) (suc (e .round)) (move-of M o .source) (L .sources-named j h)
+            (λ D v s a. step-route M L j h (leb-true 1 (o .chance) (b .0)) e (eqb-true (o .target) (e .position) (b .1)) real D v s a)
+            (step-zone M (e .zone) o) (step-exact M L (e .zone) fit j h),
+        tt,
+      ))
       (λ _. tt)
 
   after-backed : (L : Laws M) → (r : ℕ) (e : Entry) → Fits M (e .zone) → Real M e
-    → Each (λ c. Backed M (suc r) (c .position) (c .zone)) (after M r e)
+      → Each (λ c. Backed M (suc r) (c .position) (c .zone)) (after M r e)
   unfolding after
   after-backed L r e fit real =
-    cond-both (eqb (e .round) r) (joined (across M e) (M .outcomes)) [] (Each (λ c. Backed M (suc r) (c .position) (c .zone)))
+      cond-both (eqb (e .round) r) (joined (across M e) (M .outcomes)) [] (Each (λ c. Backed M (suc r) (c .position) (c .zone)))
       (λ t. subst (λ n. Each (λ c. Backed M (suc n) (c .position) (c .zone)) (joined (across M e) (M .outcomes))) (eqb-true (e .round) r t)
-        (joined-each (λ c. Backed M (suc (e .round)) (c .position) (c .zone)) (across M e) no-outcome (M .outcomes) (λ j h. across-backed L e fit real j h)))
+      (joined-each (λ c. Backed M (suc (e .round)) (c .position) (c .zone)) (across M e) no-outcome (M .outcomes) (λ j h. across-backed L e fit real j h)))
       (λ _. tt)
 
   pub starts-backed : (L : Laws M) → (f g : ℕ) (es : List Entry) → Good M es g → Each (λ c. Backed M f (c .position) (c .zone)) (starts M f es)
@@ -145,31 +147,31 @@ module _ (M : PlanMeaning) where
 
   goals-caught : (L : Laws M) → (fs : List Entry) → Each (λ c. Catches M 0 fs (c .position) (c .zone)) (map (goal-start M) (M .goals)) → All-based M fs
   goals-caught L fs c j h D v w s st b =
-    caught-of (Arriving M (goal-at M j)) 0 (goal-at M j .position) fs (goal-zone M (goal-at M j)) (goal-exact M L j h)
+      caught-of (Arriving M (goal-at M j)) 0 (goal-at M j .position) fs (goal-zone M (goal-at M j)) (goal-exact M L j h)
       (each-mapped (λ x. Catches M 0 fs (x .position) (x .zone)) (goal-start M) no-goal (M .goals) c j h) D v s
       (earlier-now M (λ E u. InBox (invariant-of M (goal-at M j .position)) E u × InBox (goal-at M j .area) E u) D w v (s .1) (st .1, b), st .0)
 
   after-caught : (L : Laws M) → (r : ℕ) (e : Entry) (fs : List Entry) → Fits M (e .zone) → e .round ≡ r
-    → Each (λ c. Catches M (suc r) fs (c .position) (c .zone)) (after M r e) → All-stepped M e (suc r) fs
+      → Each (λ c. Catches M (suc r) fs (c .position) (c .zone)) (after M r e) → All-stepped M e (suc r) fs
   unfolding after across
   after-caught L r e fs fit q c j h D v w s chance st g i =
-    let o = outcome-at M j in
-    let c1 : Each (λ x. Catches M (suc r) fs (x .position) (x .zone)) (joined (across M e) (M .outcomes))
-          = subst (Each (λ x. Catches M (suc r) fs (x .position) (x .zone))) (cond-true (eqb (e .round) r) (joined (across M e) (M .outcomes)) [] (eq-eqb (e .round) r q)) c in
-    let c2 : Each (λ x. Catches M (suc r) fs (x .position) (x .zone)) (across M e o)
-          = each-joined (λ x. Catches M (suc r) fs (x .position) (x .zone)) (across M e) no-outcome (M .outcomes) c1 j h in
-    let c3 : Each (λ x. Catches M (suc r) fs (x .position) (x .zone)) (step-start M e o ∷ [])
-          = subst (Each (λ x. Catches M (suc r) fs (x .position) (x .zone)))
-            (cond-true (leb 1 (o .chance) && eqb (o .target) (e .position)) (step-start M e o ∷ []) []
-              (and-from (leb 1 (o .chance)) (eqb (o .target) (e .position)) (le-leb 1 (o .chance) chance) (eq-eqb (o .target) (e .position) (sym (i .0))))) c2 in
-    caught-of (Crossing M (e .zone) o) (suc r) (move-of M o .source) fs (step-zone M (e .zone) o) (step-exact M L (e .zone) fit j h) (c3 .0) D v s
+      let o = outcome-at M j in
+      let c1 : Each (λ x. Catches M (suc r) fs (x .position) (x .zone)) (joined (across M e) (M .outcomes))
+      = subst (Each (λ x. Catches M (suc r) fs (x .position) (x .zone))) (cond-true (eqb (e .round) r) (joined (across M e) (M .outcomes)) [] (eq-eqb (e .round) r q)) c in
+      let c2 : Each (λ x. Catches M (suc r) fs (x .position) (x .zone)) (across M e o)
+      = each-joined (λ x. Catches M (suc r) fs (x .position) (x .zone)) (across M e) no-outcome (M .outcomes) c1 j h in
+      let c3 : Each (λ x. Catches M (suc r) fs (x .position) (x .zone)) (step-start M e o ∷ [])
+      = subst (Each (λ x. Catches M (suc r) fs (x .position) (x .zone)))
+      (cond-true (leb 1 (o .chance) && eqb (o .target) (e .position)) (step-start M e o ∷ []) []
+      (and-from (leb 1 (o .chance)) (eqb (o .target) (e .position)) (le-leb 1 (o .chance) chance) (eq-eqb (o .target) (e .position) (sym (i .0))))) c2 in
+      caught-of (Crossing M (e .zone) o) (suc r) (move-of M o .source) fs (step-zone M (e .zone) o) (step-exact M L (e .zone) fit j h) (c3 .0) D v s
       (earlier-now M (λ E u. (Held (e .zone) E (reset (o .resets) u) × InBox (move-of M o .guard) E u) × InBox (invariant-of M (move-of M o .source)) E u) D w v (s .1) ((i .1, g), st .1), st .0)
 
   pub starts-caught : (L : Laws M) → (f g : ℕ) (es fs : List Entry) → Good M es g → Each (λ c. Catches M f fs (c .position) (c .zone)) (starts M f es) → Reached f es fs
   unfolding starts Reached
   starts-caught L zero g es fs w c = goals-caught L fs c
   starts-caught L (suc r) g es fs w c = λ k h q.
-    after-caught L r (entry-at es k) fs (w .fits k h .zone) q
+      after-caught L r (entry-at es k) fs (w .fits k h .zone) q
       (each-joined (λ x. Catches M (suc r) fs (x .position) (x .zone)) (after M r) no-entry es c k h)
 
   leaves-map : (f : ℕ) (es : List Entry) (C D : List Entry → Type 0) → ((fs : List Entry) → C fs → D fs) → (t : Turn) → Leaves M f es C t → Leaves M f es D t
@@ -180,5 +182,5 @@ module _ (M : PlanMeaning) where
   pub round-leaves : (L : Laws M) → (need : Entry → ℕ) (f : ℕ) (es : List Entry) (room : ℕ) → Good M es f → Leaves M f es (Reached f es) (round M need f es room)
   unfolding round
   round-leaves L need f es room g =
-    leaves-map f es (λ fs. Each (λ c. Catches M f fs (c .position) (c .zone)) (starts M f es)) (Reached f es) (λ fs c. starts-caught L f f es fs g c)
+      leaves-map f es (λ fs. Each (λ c. Catches M f fs (c .position) (c .zone)) (starts M f es)) (Reached f es) (λ fs c. starts-caught L f f es fs g c)
       (tries need f (starts M f es) es room) (tries-leaves L need f (starts M f es) (starts-backed L f f es g) es room g)

@@ -46,7 +46,7 @@ all-unasked n = record {
   column = λ i j hi hj h d. ⊎-elim {C = all-at i j ≡ all-at i 0}
       (λ e. cond-true (eqb i 0) level (cond (eqb i j) level none) (eq-eqb i 0 e) ∙ sym (cond-true (eqb i 0) level (cond (eqb i 0) level none) (eq-eqb i 0 e)))
       (λ e. (cond-false (eqb i 0) level (cond (eqb i j) level none) (ne-eqb i 0 e) ∙ cond-false (eqb i j) level none (ne-eqb i j d))
-        ∙ sym (cond-false (eqb i 0) level (cond (eqb i 0) level none) (ne-eqb i 0 e) ∙ cond-false (eqb i 0) level none (ne-eqb i 0 e)))
+      ∙ sym (cond-false (eqb i 0) level (cond (eqb i 0) level none) (ne-eqb i 0 e) ∙ cond-false (eqb i 0) level none (ne-eqb i 0 e)))
       (cases-eq i 0);
 }
 
@@ -116,7 +116,7 @@ module _ (n : ℕ) (r : ℕ → Bool) (r0 : r 0 ≡ false) (off : (j : ℕ) → 
       to-zero : (i : ℕ) → free-at r Z i 0 ≡ cond (r i) none (Z i 0)
       to-zero i = ⊎-elim {C = free-at r Z i 0 ≡ cond (r i) none (Z i 0)}
           (λ e. cond-true (eqb i 0) level (cond (r i) none (Z i (zeroed r 0))) (eq-eqb i 0 e)
-            ∙ sym (cond-false (r i) none (Z i 0) (ap r e ∙ r0) ∙ ap (λ k. Z k 0) e ∙ can .diagonal 0 (omega arith)))
+          ∙ sym (cond-false (r i) none (Z i 0) (ap r e ∙ r0) ∙ ap (λ k. Z k 0) e ∙ can .diagonal 0 (omega arith)))
           (λ e. cond-false (eqb i 0) level (cond (r i) none (Z i (zeroed r 0))) (ne-eqb i 0 e) ∙ ap (λ k. cond (r i) none (Z i k)) (zeroed-here 0 r0))
           (cases-eq i 0)
 
@@ -126,7 +126,7 @@ unfolding zero-all
 zero-unasked n r off Z u zero h = u
 zero-unasked n r off Z u (suc m) h = ⊎-elim {C = Unasked n (zero-all r Z (suc m))}
     (λ e. unasked-same n (zero-all r Z (suc m)) (cut-at (zero-all r Z m) m 0 level) (λ a b ha hb. cond-true (r m) (cut-at (zero-all r Z m) m 0 level a b) (zero-all r Z m a b) e)
-      (cut-unasked n (zero-all r Z m) (zero-unasked n r off Z u m (omega arith)) m 0 (omega arith) (omega arith) (at-most m e) (omega arith) level))
+    (cut-unasked n (zero-all r Z m) (zero-unasked n r off Z u m (omega arith)) m 0 (omega arith) (omega arith) (at-most m e) (omega arith) level))
     (λ e. unasked-same n (zero-all r Z (suc m)) (zero-all r Z m) (λ a b ha hb. cond-false (r m) (cut-at (zero-all r Z m) m 0 level a b) (zero-all r Z m a b) e) (zero-unasked n r off Z u m (omega arith)))
     (cases-bool (r m))
   where
@@ -159,5 +159,5 @@ module _ (n : ℕ) (normal : UpperBound → UpperBound) (normal-none : normal no
   boxed-unasked (suc m) h = ⊎-elim {C = Unasked n (boxed normal sides Z (suc m))}
       (λ l. cut-unasked n (boxed normal sides Z m) (boxed-unasked m (omega arith)) (row-of m) (column-of m) (row-9 m (omega arith)) (column-9 m (omega arith)) (step-row m l) (step-column m l) (normal (box-bound sides m)))
       (λ l. subst (λ c. Unasked n (cut-at (boxed normal sides Z m) (row-of m) (column-of m) c)) (sym (ap normal (step-none m (omega arith) l) ∙ normal-none))
-        (none-unasked n (boxed normal sides Z m) (boxed-unasked m (omega arith)) (row-of m) (column-of m)))
+      (none-unasked n (boxed normal sides Z m) (boxed-unasked m (omega arith)) (row-of m) (column-of m)))
       (cases-lt (m / 2) n)

@@ -51,14 +51,14 @@ pub record ZoneOf (normal : UpperBound → UpperBound) (xs : List Code) : Type 0
 pub record CallsGiven (allows : ℕ → Bool) (normal : UpperBound → UpperBound) : Type 0 where
   pub all-only : (xs : List Code) → ZoneCodes xs → AllSays xs → xs ≡ whole
   pub box-says : (sides : List Side) (xs : List Code) → Plain sides → ZoneOf normal xs
-    → BoxSays (scales allows) normal sides xs (left xs (cut-box normal sides xs)) (answered (cut-box normal sides xs)) × Valid (cut-box normal sides xs)
+      → BoxSays (scales allows) normal sides xs (left xs (cut-box normal sides xs)) (answered (cut-box normal sides xs)) × Valid (cut-box normal sides xs)
   pub box-only : (sides : List Side) (xs ys : List Code) (r : Result Cut Refusal) → Plain sides → ZoneOf normal xs → ZoneCodes ys
-    → BoxSays (scales allows) normal sides xs ys r → Is (cut-box normal sides xs) xs ys r
+      → BoxSays (scales allows) normal sides xs ys r → Is (cut-box normal sides xs) xs ys r
   pub back-says : (xs : List Code) → ZoneOf normal xs → (ys : List Code) × (back-zone xs ≡ kept ys) × ZoneCodes ys × BackDone (scales allows) normal xs ys
   pub back-only : (xs ys : List Code) (u : Unit {0}) → ZoneOf normal xs → ZoneCodes ys → BackSays (scales allows) normal xs ys (Ok u) → back-zone xs ≡ kept ys
   pub undo-says : (r : ℕ → Bool) (xs : List Code) → r 0 ≡ false → ZoneOf normal xs → Undoes (scales allows) normal r xs (undo-zone r xs)
   pub undo-only : (cs : List ℕ) (r : ℕ → Bool) (xs ys : List Code) (a : Result Cut Refusal) → Known cs → r 0 ≡ false → ((i : ℕ) → i < 9 → r i ≡ reset cs i) → ZoneOf normal xs → ZoneCodes ys
-    → UndoSays (scales allows) normal cs xs ys a → Is (undo-zone r xs) xs ys a
+      → UndoSays (scales allows) normal cs xs ys a → Is (undo-zone r xs) xs ys a
   pub within-says : (xs ys : List Code) → ZoneOf normal xs → ZoneCodes ys → Iff (within-zone xs ys ≡ true) (Inside (scales allows) xs ys)
   pub within-only : (xs ys : List Code) (b : Bool) → ZoneOf normal xs → ZoneCodes ys → WithinSays (scales allows) normal xs ys (Ok b) → within-zone xs ys ≡ b
   pub holds-says : (xs : List Code) (D : ℕ) (v : ℕ → ℤ) → Iff (holds-zone xs D v ≡ true) (Holds (at xs) D v)

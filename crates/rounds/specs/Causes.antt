@@ -26,7 +26,7 @@ start-at cs k = getD cs k (record { position = 0; zone = empty })
 -- some start's zone lies within no held one, and its entry's need is above the room left
 abbrev pub No-room : (Entry → ℕ) → ℕ → List Start → List Entry → ℕ → Type 0
 No-room need f cs fs left = (k : ℕ) × (z : List Code) × (k < length cs) × (start-at cs k .zone ≡ kept z) × (covering fs (start-at cs k .position) z ≡ false)
-  × (left < need (record { position = start-at cs k .position; round = f; zone = z }))
+    × (left < need (record { position = start-at cs k .position; round = f; zone = z }))
 
 -- a zone call of some start left the range
 abbrev pub Out-of-range : List Start → Type 0

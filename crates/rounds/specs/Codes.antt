@@ -55,7 +55,7 @@ whole = codes-to 81 code-all
 -- cut at (i, j) by the bound whose code is c: no state is left, or every bound is tightened, unless one is then out of range
 unfoldable pub cut-code : ℕ → ℕ → ℕ → List Code → Remains
 cut-code i j c xs = cond (ltb (code-plus (code-of xs (9 * j + i)) c) 33554433) empty
-  (cond (every 81 (λ p. in-reach (code-cut xs i j c p))) (kept (codes-to 81 (code-cut xs i j c))) beyond)
+    (cond (every 81 (λ p. in-reach (code-cut xs i j c p))) (kept (codes-to 81 (code-cut xs i j c))) beyond)
 
 abbrev pub cut-zone : (UpperBound → UpperBound) → ℕ → ℕ → UpperBound → List Code → Remains
 cut-zone normal i j b xs = cut-code i j (coded (normal b)) xs

@@ -69,7 +69,7 @@ Due M need room f b widen (widened n) = Follows M need room f b × Ends-well (ro
 Due M need room f b widen (told a) = ⊥
 Due M need room f b widen (listed e) = ⊥
 Due M need room f b widen (refused e) = By ⊥ (Follows M need room f b × Ends-full (rounds-from M need room (f + 1))) (Follows M need room f b × Ends-range (rounds-from M need room (f + 1)))
-  ((0 < b) ⊎ Closed-after M need room f) ⊥ e
+    ((0 < b) ⊎ Closed-after M need room f) ⊥ e
 Due M need room f b (ask D p rs) (widened n) = ⊥
 Due M need room f b (ask D p rs) (told a) = Askable M D p rs × Told M need room f D p (value-of rs) a
 Due M need room f b (ask D p rs) (listed e) = ⊥

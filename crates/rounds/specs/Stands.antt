@@ -45,7 +45,7 @@ Based M g es = (D : ℕ) (v : ℕ → ℕ) (w : ℕ) → Scale M D → Waits M D
 -- the states from which a delay and a crossing by o lead into entry e are covered by round n
 abbrev pub Stepped : PlanMeaning → Outcome → Entry → ℕ → List Entry → Type 0
 Stepped M o e n es = (D : ℕ) (v : ℕ → ℕ) (w : ℕ) → Scale M D → 1 ≤ o .chance → Waits M D (move-of M o .source) v w → InBox (move-of M o .guard) D (later w v)
-  → In e D (o .target) (reset (o .resets) (later w v)) → Covers es n D (move-of M o .source) v
+    → In e D (o .target) (reset (o .resets) (later w v)) → Covers es n D (move-of M o .source) v
 
 abbrev pub All-based : PlanMeaning → List Entry → Type 0
 All-based M es = (j : ℕ) → j < length (M .goals) → Based M (goal-at M j) es

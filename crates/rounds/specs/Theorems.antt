@@ -29,7 +29,7 @@ module _ (M : PlanMeaning) (need : Entry → ℕ) where
   -- what a round tries is an entry for every store of the plan's clocks, so that no store refuses it by Name
   abbrev pub Starts-fit : Type 0
   Starts-fit = (es : List Entry) → ((k : ℕ) → k < length es → EntryOf M (entry-at es k)) → (f k : ℕ) (z : List Code) → k < length (starts M f es) → start-at (starts M f es) k .zone ≡ kept z
-    → EntryOf M (record { position = start-at (starts M f es) k .position; round = f; zone = z })
+      → EntryOf M (record { position = start-at (starts M f es) k .position; round = f; zone = z })
 
   -- a round keeps what stands
   abbrev pub Round-kept : Type 0
@@ -38,7 +38,7 @@ module _ (M : PlanMeaning) (need : Entry → ℕ) where
   -- the entries of round k or earlier, k below f, hold exactly the states with a route of at most k crossings
   abbrev pub Held-exactly : Type 0
   Held-exactly = (es : List Entry) (f : ℕ) (ph : Phase) → (ph ≡ Unfit → ⊥) → Stands M es f ph → (k D p : ℕ) (v : ℕ → ℕ) → k < f → Scale M D
-    → (Covers es k D p v → ∥ ((n : ℕ) × (n ≤ k) × Route M D p v n) ∥₁) × (∥ ((n : ℕ) × (n ≤ k) × Route M D p v n) ∥₁ → Covers es k D p v)
+      → (Covers es k D p v → ∥ ((n : ℕ) × (n ≤ k) × Route M D p v n) ∥₁) × (∥ ((n : ℕ) × (n ≤ k) × Route M D p v n) ∥₁ → Covers es k D p v)
 
   -- what an answer says of routes, in any phase but unfit
   abbrev pub Answers-say : Type 0

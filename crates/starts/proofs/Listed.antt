@@ -32,7 +32,7 @@ module _ (rs : List Bool) (cs : List ℕ) (many : length cs ≡ 8) (is : (i : �
   other : (m k : ℕ) → k < 8 → getD rs m false ≡ false → getD cs k 0 ≡ suc m → ⊥
   other m k h off e = ⊎-elim {C = ⊥}
       (λ on. let q : k + 1 ≡ suc m = sym (is k h ∙ cond-true (getD rs k false) (k + 1) 0 on) ∙ e in
-        both-ways (getD rs k false) (ap (λ i. getD rs i false) (omega arith) ∙ off) on)
+      both-ways (getD rs k false) (ap (λ i. getD rs i false) (omega arith) ∙ off) on)
       (λ out. let q : 0 ≡ suc m = sym (is k h ∙ cond-false (getD rs k false) (k + 1) 0 out) ∙ e in omega arith)
       (cases-bool (getD rs k false))
 

@@ -52,7 +52,7 @@ module _ (M : PlanMeaning) (formed : WellFormed M) where
   goal-tells normal en g inv r i w o =
       let e : inv ≡ invariant-of M (g .position) = ok-same inv (invariant-of M (g .position)) (i (o .position)) in
       let w1 : GoalWay (M .normal) (invariant-of M (g .position) .sides) (g .area .sides) r
-            = subst (λ (b : ClockBox). GoalWay (M .normal) (b .sides) (g .area .sides) r) e (subst (λ n. GoalWay n (inv .sides) (g .area .sides) r) en w) in
+      = subst (λ (b : ClockBox). GoalWay (M .normal) (b .sides) (g .area .sides) r) e (subst (λ n. GoalWay n (inv .sides) (g .area .sides) r) en w) in
       subst (λ x. Tells x r) (sym (goal-is g)) (w1 (plain-at (g .position) (o .position)) (box-fair (M .clocks) (g .area) (o .area) .plain))
 
   step-is : (z : List Code) (o : Outcome) → step-zone M z o ≡ step-way (M .normal) (o .resets) (move-of M o .guard .sides) (invariant-of M (move-of M o .source) .sides) z
@@ -69,12 +69,12 @@ module _ (M : PlanMeaning) (formed : WellFormed M) where
       let n = source-of m o s in
       let e : inv ≡ invariant-of M (m .source) = ok-same inv (invariant-of M (m .source)) (i n) in
       let w1 : StepWay (M .normal) (o .resets) (m .guard .sides) (invariant-of M (m .source) .sides) z r
-            = subst (λ (b : ClockBox). StepWay (M .normal) (o .resets) (m .guard .sides) (b .sides) z r) e (subst (λ x. StepWay x (o .resets) (m .guard .sides) (inv .sides) z r) en w) in
+      = subst (λ (b : ClockBox). StepWay (M .normal) (o .resets) (m .guard .sides) (b .sides) z r) e (subst (λ x. StepWay x (o .resets) (m .guard .sides) (inv .sides) z r) en w) in
       let w2 : StepWay (M .normal) (o .resets) (move-of M o .guard .sides) (invariant-of M (move-of M o .source) .sides) z r
-            = subst (λ (x : Move). StepWay (M .normal) (o .resets) (x .guard .sides) (invariant-of M (x .source) .sides) z r) (s .cause) w1 in
+      = subst (λ (x : Move). StepWay (M .normal) (o .resets) (x .guard .sides) (invariant-of M (x .source) .sides) z r) (s .cause) w1 in
       subst (λ x. Tells x r) (sym (step-is z o))
-        (w2 (box-fair (M .clocks) (move-of M o .guard) (formed .moves (o .cause - 1) (omega (arith, s .outcome .cause .0, s .outcome .cause .1)) .1) .plain)
-          (plain-at (move-of M o .source) (subst (λ (x : Move). Names (length (M .positions)) (x .source)) (s .cause) n)) of)
+      (w2 (box-fair (M .clocks) (move-of M o .guard) (formed .moves (o .cause - 1) (omega (arith, s .outcome .cause .0, s .outcome .cause .1)) .1) .plain)
+      (plain-at (move-of M o .source) (subst (λ (x : Move). Names (length (M .positions)) (x .source)) (s .cause) n)) of)
 
   pub no-invariant : (p : ℕ) (e : Refusal) → InvariantTells M p (Err e) → Names (length (M .positions)) p → ⊥
   no-invariant p e i n = apart (invariant-of M p) (i n)

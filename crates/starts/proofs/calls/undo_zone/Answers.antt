@@ -13,7 +13,7 @@ returns-in-Kept g c z =
     let t = g .T·TimeDomain in
     let y = c .undo .last .self in
     undo-kept (t .allows k) (t .normal k) (t .lawful k) (c .args .resets .now) (c .clocks-of-clocks .result) (c .clocks-of-clocks .ensures) (c .args .zone .codes) (y .codes) (c .whole .ensures .many) (y .ok)
-      (subst (λ l. UndoSays (scales (t .allows k)) (t .normal k) (c .clocks-of-clocks .result) (c .args .zone .codes) (y .codes) (Ok l)) (c .in-Kept .is) (c .in-Ok .ensures tt)) z
+    (subst (λ l. UndoSays (scales (t .allows k)) (t .normal k) (c .clocks-of-clocks .result) (c .args .zone .codes) (y .codes) (Ok l)) (c .in-Kept .is) (c .in-Ok .ensures tt)) z
     ∙ ap (λ (x : Zone). kept (x .codes)) (sym (c .whole .ensures .is))
 
 pub returns-in-Empty : need.returns-in-Empty
@@ -22,4 +22,4 @@ returns-in-Empty g c z =
     let t = g .T·TimeDomain in
     let y = c .undo .last .self in
     undo-none (t .allows k) (t .normal k) (t .lawful k) (c .args .resets .now) (c .clocks-of-clocks .result) (c .clocks-of-clocks .ensures) (c .args .zone .codes) (y .codes)
-      (subst (λ l. UndoSays (scales (t .allows k)) (t .normal k) (c .clocks-of-clocks .result) (c .args .zone .codes) (y .codes) (Ok l)) (c .in-Empty .is) (c .in-Ok .ensures tt)) z
+    (subst (λ l. UndoSays (scales (t .allows k)) (t .normal k) (c .clocks-of-clocks .result) (c .args .zone .codes) (y .codes) (Ok l)) (c .in-Empty .is) (c .in-Ok .ensures tt)) z
