@@ -1,0 +1,5 @@
+pub mod Steps
+pub mod Parting
+pub mod Reading
+pub mod Spelling
+pub mod Writing

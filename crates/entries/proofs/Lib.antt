@@ -1,0 +1,5 @@
+pub mod Wholes
+pub mod Asks
+pub mod Steps
+pub mod Items
+pub mod Short

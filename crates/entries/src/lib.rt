@@ -1,0 +1,4 @@
+pub mod clock_count;
+pub mod entry;
+mod places;
+mod written;

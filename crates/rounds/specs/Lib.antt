@@ -1,0 +1,12 @@
+pub mod Codes
+pub mod Answers
+pub mod Unused
+pub mod Calls
+pub mod Held
+pub mod Rounds
+pub mod Stands
+pub mod Causes
+pub mod Searches
+pub mod Histories
+pub mod Theorems
+pub mod Deadlines

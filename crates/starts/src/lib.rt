@@ -1,0 +1,3 @@
+mod calls;
+pub mod starts;
+mod zones_back;

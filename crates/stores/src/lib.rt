@@ -1,0 +1,3 @@
+pub mod loan;
+pub mod row_store;
+pub mod store;
