@@ -1,0 +1,10 @@
+pub mod Items
+pub mod RowLists
+pub mod Boxes
+pub mod Meaning
+pub mod Routes
+pub mod Journeys
+pub mod BoxChecks
+pub mod RowChecks
+pub mod Sound
+pub mod Tables
