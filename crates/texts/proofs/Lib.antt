@@ -1,0 +1,2 @@
+pub mod ClockSteps
+pub mod BoxSteps

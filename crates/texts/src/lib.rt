@@ -1,0 +1,5 @@
+mod boxes;
+pub mod fault;
+pub mod field;
+mod line;
+mod numbers;
