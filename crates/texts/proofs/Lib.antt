@@ -1,2 +1,4 @@
 pub mod ClockSteps
 pub mod BoxSteps
+pub mod LineWalks
+pub mod LineFacts

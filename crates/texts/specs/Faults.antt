@@ -8,7 +8,7 @@ use Rattle.std.specs.declared.result.Result.the-variants.{Ok, Err}
 use Rattle.bounds.specs.declared.refusal.Refusal.{Refusal}
 use Rattle.bounds.specs.declared.refusal.Refusal.the-variants.{Line}
 use Rattle.bytes.specs.declared.parts.Part.{Part}
-use Rattle.bytes.specs.Parts.{Place, place}
+use Rattle.bytes.specs.Parts.{Place, place, parted}
 use Rattle.texts.specs.declared.fault.TextFault.{TextFault}
 
 -- a fault, with its part as a place
@@ -37,6 +37,10 @@ refused r line field p = Err (record { refusal = r; line = line; field = field; 
 abbrev pub on : {X Y : Type 0} → Result X Fault → (X → Result Y Fault) → Result Y Fault
 on (Ok x) f = f x
 on (Err e) f = Err e
+
+-- the fields of the line p
+abbrev pub fields-of : Place → List Place
+fields-of p = parted 9 (p .at) (p .bytes)
 
 -- the next field of the line p
 abbrev pub field-next : ℕ → Place → List Place → Result Place Fault

@@ -5,7 +5,7 @@ use zones::boxes::ClockBox;
 #[derive(Clone, Copy)]
 pub enum Field<'t> {
     Word(Part<'t>),
-    Number(u64, Part<'t>),
+    Number(usize, Part<'t>),
     Clocks([bool; 8], Part<'t>),
     Bounds(ClockBox, Part<'t>),
 }

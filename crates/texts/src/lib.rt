@@ -3,3 +3,8 @@ pub mod fault;
 pub mod field;
 mod line;
 mod numbers;
+mod reader;
+mod words;
+pub mod plan_rows;
+mod lines;
+pub mod progress;

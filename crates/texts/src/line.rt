@@ -1,6 +1,8 @@
 ghost use mathlib.Core.Path.{_≡_};
+ghost use Prim.Native.Nat.{_+_, _^_, _<_};
+ghost use lib.ListN.{length};
 ghost use Rattle.bytes.specs.Parts.{place, ahead, tail-places};
-ghost use Rattle.texts.specs.Faults.{fault, faulty, seen-part, refused, field-next, no-field, demanded, LowPart};
+ghost use Rattle.texts.specs.Faults.{fault, faulty, seen-part, refused, field-next, no-field, demanded, fields-of, LowPart};
 use crate::fault::TextFault;
 use bounds::refusal::Refusal;
 use bytes::parts::Part;
@@ -24,6 +26,14 @@ impl<'t> Line<'t> {
             field: 0,
             part: self.whole,
         }
+    }
+
+    // The fields of the line, between tabs.
+    pub fn fields(self) -> Parts<'t>
+        requires { ⌜ self .whole .at + length (now (self .whole .bytes)) < 2 ^ 64 ⌝ }
+        ensures { λ r. ⌜ ahead r ≡ fields-of (place (self .entry .whole)) ⌝ }
+    {
+        Parts::new(self.whole, b'\t')
     }
 
     // The next field; a line that has no more is refused by Line.

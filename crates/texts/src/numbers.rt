@@ -26,13 +26,14 @@ impl<'t> Line<'t> {
     }
 
     // A number from `low` to `high`: Number where the field is no numeral, and `out` where the number lies outside.
-    pub fn number(self, field: usize, part: Part<'t>, low: u64, high: u64, out: Refusal) -> Result<Field<'t>, TextFault<'t>>
+    pub fn number(self, field: usize, part: Part<'t>, low: usize, high: usize, out: Refusal) -> Result<Field<'t>, TextFault<'t>>
         requires { ⌜ high < 2 ^ 50 ⌝ }
         ensures { λ r. ⌜ seen-field r ≡ number-field low high out (self .entry .number) field (place (part .entry)) ⌝ }
     {
-        match number_to(part.bytes, high + 1) {
+        match number_to(part.bytes, high as u64 + 1) {
             None => Err(self.field_fault(field, part, Refusal::Number)),
             Some(v) => {
+                let v = v as usize;
                 if low <= v && v <= high {
                     Ok(Field::Number(v, part))
                 } else {
