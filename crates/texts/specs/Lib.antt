@@ -6,3 +6,4 @@ pub mod Words
 pub mod PlanRows
 pub mod States
 pub mod Lines
+pub mod Texts

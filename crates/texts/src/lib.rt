@@ -8,3 +8,4 @@ mod words;
 pub mod plan_rows;
 mod lines;
 pub mod progress;
+pub mod plan_text;
