@@ -1,0 +1,6 @@
+pub mod BoxSpelling
+pub mod ClockSpelling
+pub mod Standing
+pub mod Back
+pub mod Forth
+pub mod TextRuns

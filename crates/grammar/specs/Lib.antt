@@ -1,0 +1,2 @@
+pub mod BoxesWritten
+pub mod Written

@@ -1,0 +1,4 @@
+// placeholder
+pub fn nothing() -> u8 {
+    0
+}
