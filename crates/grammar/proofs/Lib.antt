@@ -4,3 +4,7 @@ pub mod Standing
 pub mod Back
 pub mod Forth
 pub mod TextRuns
+pub mod RowsPut
+pub mod ShapeLeads
+pub mod ShapeFound
+pub mod Accepted

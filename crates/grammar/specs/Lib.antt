@@ -1,2 +1,3 @@
 pub mod BoxesWritten
 pub mod Written
+pub mod Grammar

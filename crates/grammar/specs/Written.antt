@@ -88,6 +88,10 @@ abbrev pub goal-row : GoalText → Goal
 goal-row g = record { position = g .position; area = box-by (g .area) }
 
 -- ---- what is asked of it
+abbrev pub outcome-count : List MoveText → ℕ
+outcome-count [] = 0
+outcome-count (m ∷ ms) = length (m .outcomes) + outcome-count ms
+
 abbrev pub sum-of : List OutcomeText → ℕ
 sum-of [] = 0
 sum-of (o ∷ os) = o .chance + sum-of os
@@ -113,7 +117,7 @@ pub record FinePlan (w : PlanText) : Type 0 where
   pub clocks : OneOf 8 (w .clocks)
   pub count : OneOf 64 (length (w .positions))
   pub few-moves : length (w .moves) ≤ 256
-  pub few-outcomes : length (outcome-rows 1 (w .moves)) ≤ 512
+  pub few-outcomes : outcome-count (w .moves) ≤ 512
   pub few-goals : length (w .goals) ≤ 64
   pub positions : All (All (FineBound (w .clocks))) (w .positions)
   pub moves : All (FineMove (w .clocks) (length (w .positions))) (w .moves)
