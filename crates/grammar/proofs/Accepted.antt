@@ -21,7 +21,7 @@ use Rattle.grammar.proofs.TextRuns.{good, Led, only-led, all-led}
 use Rattle.grammar.proofs.ShapeLeads.{filled, plan-leads}
 use Rattle.grammar.proofs.ShapeFound.{PlanShape, plan-shape}
 
-count-rows : (k : ℕ) (ms : List MoveText) → length (outcome-rows k ms) ≡ outcome-count ms
+pub count-rows : (k : ℕ) (ms : List MoveText) → length (outcome-rows k ms) ≡ outcome-count ms
 count-rows k [] = refl
 count-rows k (m ∷ ms) = omega (arith, length-append (map (outcome-row k) (m .outcomes)) (outcome-rows (k + 1) ms), length-map (outcome-row k) (m .outcomes), count-rows (k + 1) ms)
 

@@ -8,3 +8,4 @@ pub mod RowsPut
 pub mod ShapeLeads
 pub mod ShapeFound
 pub mod Accepted
+pub mod FineRows
