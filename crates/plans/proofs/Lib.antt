@@ -1,3 +1,4 @@
 pub mod Taken
 pub mod Scaled
 pub mod Chances
+pub mod ZoneBoxes

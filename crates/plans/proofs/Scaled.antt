@@ -1,14 +1,14 @@
 -- Runs at a multiple of their scale
 use mathlib.Core.Path.{_≡_, refl, sym, ap, subst, _∙_, fun-ext}
-use mathlib.Core.List.{List, [], _∷_}
+use mathlib.Core.List.{List}
 use mathlib.Core.Bool.{Bool, true, false, cond}
 use Prim.Native.Nat.{ℕ, zero, suc, _+_, _-_, _*_, _≤_, _<_}
 use native.Mathlib.Nat.{mul-add, mul-zero, mul-assoc, mul-comm, one-mul, mul-le-mul-right}
 use native.Mathlib.Omega.{arith}
 use borrow.Author.Differences.{ints}
-use lib.IntN.{ℤ, pos, _+ℤ_, _-ℤ_, _*ℤ_}
-use lib.ListN.{length, getD}
-use Rattle.bounds.specs.Bounds.{UpperBound, Meets}
+use lib.IntN.{pos, _+ℤ_, _-ℤ_, _*ℤ_}
+use lib.ListN.{getD}
+use Rattle.bounds.specs.Bounds.{Meets}
 use Rattle.bounds.specs.Sums.{bound-of}
 use Rattle.bounds.specs.Laws.{times-is, times-plus}
 use Rattle.bounds.proofs.Scales.{meets-up}

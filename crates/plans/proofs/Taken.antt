@@ -1,18 +1,12 @@
 -- The first rows of a list
 use mathlib.Core.Path.{_≡_, sym, _∙_}
 use mathlib.Core.List.{List}
-use Prim.Native.Nat.{ℕ, _-_, _≤_, _<_, min}
+use Prim.Native.Nat.{ℕ, _-_, _≤_}
 use native.Mathlib.Omega.{arith}
 use lib.ListN.{length, getD, take, length-take}
 use Rattle.std.proofs.shelf.Lists.{getD-take, getD-read}
 
 module _ {R : Type 0} (n : ℕ) (xs : List R) (k : ℕ) where
-  pub one-of : k ≤ n → k ≤ length xs → k ≤ length (take n xs)
-  one-of a b = omega (arith, length-take n xs)
-
-  pub not-past : k ≤ length (take n xs) → k ≤ n
-  not-past h = omega (arith, length-take n xs)
-
   pub supplied : k ≤ length (take n xs) → k ≤ length xs
   supplied h = omega (arith, length-take n xs)
 

@@ -1,5 +1,4 @@
 -- What a table plan means.
-use mathlib.Core.Path.{_≡_}
 use mathlib.Core.Logic.{∥∥₁-map}
 use mathlib.Core.List.{List}
 use mathlib.Core.Bool.{Bool}

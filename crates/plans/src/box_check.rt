@@ -1,6 +1,6 @@
 ghost use mathlib.Core.Path.{_≡_};
 ghost use mathlib.Core.Bool.{true};
-ghost use Prim.Native.Nat.{ℕ, _<_, _≤_};
+ghost use Prim.Native.Nat.{_<_};
 ghost use lib.ListN.{length};
 ghost use Rattle.std.specs.Results.{Cases as ByOk};
 ghost use Rattle.std.specs.Orderings.{Decides};
@@ -80,7 +80,7 @@ pub fn check_boxes(boxes: &[ClockBox], clocks: usize) -> Result<(), Refusal>
     for i in 0..boxes.len() {
         match check_box(&boxes[i], clocks) {
             Ok(()) => {}
-            Err(e) => return Err(e),
+            Err(why) => return Err(why),
         }
     }
     Ok(())

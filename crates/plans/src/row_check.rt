@@ -68,11 +68,11 @@ fn check_outcome(o: &Outcome, moves: usize, positions: usize, clocks: usize) -> 
     Ok(())
 }
 
-fn check_positions(rows: &[Position], clocks: usize) -> Result<(), RowFault>
-    ensures { λ r. ⌜ ByOk r (λ _. Positions-fine clocks (now (rows .entry)) (length (now (rows .entry)))) (λ f. PositionFault clocks (now (rows .entry)) f) ⌝ }
+fn check_positions(positions: &[Position], clocks: usize) -> Result<(), RowFault>
+    ensures { λ r. ⌜ ByOk r (λ _. Positions-fine clocks (now (positions .entry)) (length (now (positions .entry)))) (λ f. PositionFault clocks (now (positions .entry)) f) ⌝ }
 {
-    for i in 0..rows.len() {
-        match check_box(&rows[i].invariant, clocks) {
+    for i in 0..positions.len() {
+        match check_box(&positions[i].invariant, clocks) {
             Ok(()) => {}
             Err(refusal) => return Err(RowFault {
                 refusal,
@@ -84,11 +84,11 @@ fn check_positions(rows: &[Position], clocks: usize) -> Result<(), RowFault>
     Ok(())
 }
 
-fn check_moves(rows: &[Move], positions: usize, clocks: usize) -> Result<(), RowFault>
-    ensures { λ r. ⌜ ByOk r (λ _. Moves-fine clocks positions (now (rows .entry)) (length (now (rows .entry)))) (λ f. MoveFault clocks positions (now (rows .entry)) f) ⌝ }
+fn check_moves(moves: &[Move], positions: usize, clocks: usize) -> Result<(), RowFault>
+    ensures { λ r. ⌜ ByOk r (λ _. Moves-fine clocks positions (now (moves .entry)) (length (now (moves .entry)))) (λ f. MoveFault clocks positions (now (moves .entry)) f) ⌝ }
 {
-    for i in 0..rows.len() {
-        match check_placed(&rows[i].guard, rows[i].source, positions, clocks) {
+    for i in 0..moves.len() {
+        match check_placed(&moves[i].guard, moves[i].source, positions, clocks) {
             Ok(()) => {}
             Err(refusal) => return Err(RowFault {
                 refusal,
@@ -101,15 +101,15 @@ fn check_moves(rows: &[Move], positions: usize, clocks: usize) -> Result<(), Row
 }
 
 fn check_outcomes(
-    rows: &[Outcome],
+    outcomes: &[Outcome],
     moves: usize,
     positions: usize,
     clocks: usize,
 ) -> Result<(), RowFault>
-    ensures { λ r. ⌜ ByOk r (λ _. Outcomes-fine clocks positions moves (now (rows .entry)) (length (now (rows .entry)))) (λ f. OutcomeFault clocks positions moves (now (rows .entry)) f) ⌝ }
+    ensures { λ r. ⌜ ByOk r (λ _. Outcomes-fine clocks positions moves (now (outcomes .entry)) (length (now (outcomes .entry)))) (λ f. OutcomeFault clocks positions moves (now (outcomes .entry)) f) ⌝ }
 {
-    for i in 0..rows.len() {
-        match check_outcome(&rows[i], moves, positions, clocks) {
+    for i in 0..outcomes.len() {
+        match check_outcome(&outcomes[i], moves, positions, clocks) {
             Ok(()) => {}
             Err(refusal) => return Err(RowFault {
                 refusal,
@@ -121,11 +121,11 @@ fn check_outcomes(
     Ok(())
 }
 
-fn check_goals(rows: &[Goal], positions: usize, clocks: usize) -> Result<(), RowFault>
-    ensures { λ r. ⌜ ByOk r (λ _. Goals-fine clocks positions (now (rows .entry)) (length (now (rows .entry)))) (λ f. GoalFault clocks positions (now (rows .entry)) f) ⌝ }
+fn check_goals(goals: &[Goal], positions: usize, clocks: usize) -> Result<(), RowFault>
+    ensures { λ r. ⌜ ByOk r (λ _. Goals-fine clocks positions (now (goals .entry)) (length (now (goals .entry)))) (λ f. GoalFault clocks positions (now (goals .entry)) f) ⌝ }
 {
-    for i in 0..rows.len() {
-        match check_placed(&rows[i].area, rows[i].position, positions, clocks) {
+    for i in 0..goals.len() {
+        match check_placed(&goals[i].area, goals[i].position, positions, clocks) {
             Ok(()) => {}
             Err(refusal) => return Err(RowFault {
                 refusal,
@@ -137,14 +137,14 @@ fn check_goals(rows: &[Goal], positions: usize, clocks: usize) -> Result<(), Row
     Ok(())
 }
 
-// The chances of move k, from 1, added up.
-fn chances_of(rows: &[Outcome], k: usize) -> u32
-    requires few { ⌜ length (now rows) ≤ 512 ⌝ }
-    requires small { ⌜ ((j : ℕ) → j < length (now rows) → getD (now rows) j no-outcome .chance ≤ 1000) ⌝ }
-    ensures { λ r. ⌜ r ≡ chances k (now (rows .entry)) ⌝ }
+// The chances of move k, from 1, added up over the outcomes, whatever the sum in the move's own row.
+fn chances_of(outcomes: &[Outcome], k: usize) -> u32
+    requires few { ⌜ length (now outcomes) ≤ 512 ⌝ }
+    requires small { ⌜ ((j : ℕ) → j < length (now outcomes) → getD (now outcomes) j no-outcome .chance ≤ 1000) ⌝ }
+    ensures { λ r. ⌜ r ≡ chances k (now (outcomes .entry)) ⌝ }
 {
     let mut sum = 0;
-    for o in rows {
+    for o in outcomes {
         if o.cause == k {
             sum += o.chance;
         }
@@ -152,13 +152,13 @@ fn chances_of(rows: &[Outcome], k: usize) -> u32
     sum
 }
 
-fn check_chances(rows: &[Outcome], moves: usize) -> Result<(), RowFault>
-    requires few { ⌜ length (now rows) ≤ 512 ⌝ }
-    requires small { ⌜ ((j : ℕ) → j < length (now rows) → getD (now rows) j no-outcome .chance ≤ 1000) ⌝ }
-    ensures { λ r. ⌜ ByOk r (λ _. Chances-fine (now (rows .entry)) moves) (λ f. ChanceFault moves (now (rows .entry)) f) ⌝ }
+fn check_chances(moves: &[Move], outcomes: &[Outcome]) -> Result<(), RowFault>
+    requires few { ⌜ length (now outcomes) ≤ 512 ⌝ }
+    requires small { ⌜ ((j : ℕ) → j < length (now outcomes) → getD (now outcomes) j no-outcome .chance ≤ 1000) ⌝ }
+    ensures { λ r. ⌜ ByOk r (λ _. Chances-fine (now (outcomes .entry)) (length (now (moves .entry)))) (λ f. ChanceFault (length (now (moves .entry))) (now (outcomes .entry)) f) ⌝ }
 {
-    for i in 0..moves {
-        if chances_of(rows, i + 1) != 1000 {
+    for i in 0..moves.len() {
+        if chances_of(outcomes, i + 1) != 1000 {
             return Err(RowFault {
                 refusal: Refusal::Chance,
                 list: PlanList::Moves,
@@ -220,19 +220,19 @@ pub fn check_rows(
     }
     match check_positions(positions, clocks) {
         Ok(()) => {}
-        Err(f) => return Err(f),
+        Err(fault) => return Err(fault),
     }
     match check_moves(moves, positions.len(), clocks) {
         Ok(()) => {}
-        Err(f) => return Err(f),
+        Err(fault) => return Err(fault),
     }
     match check_outcomes(outcomes, moves.len(), positions.len(), clocks) {
         Ok(()) => {}
-        Err(f) => return Err(f),
+        Err(fault) => return Err(fault),
     }
     match check_goals(goals, positions.len(), clocks) {
         Ok(()) => {}
-        Err(f) => return Err(f),
+        Err(fault) => return Err(fault),
     }
-    check_chances(outcomes, moves.len())
+    check_chances(moves, outcomes)
 }

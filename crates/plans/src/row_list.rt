@@ -1,10 +1,11 @@
 ghost use mathlib.Core.Path.{_≡_};
+ghost use mathlib.Core.Bool.{true};
 ghost use Prim.Native.Nat.{_+_, _-_, _^_, _<_, _≤_};
 ghost use lib.ListN.{length, set};
 ghost use denote.Ref.{now, name};
 ghost use Rattle.std.specs.Orderings.{Decides};
 ghost use Rattle.plans.specs.Items.{Item, Names};
-ghost use Rattle.plans.specs.RowLists.{Kept, kept, taken, emptied, PushSays, SetSays, AddSays, move-row, raised, changed};
+ghost use Rattle.plans.specs.RowLists.{kept, taken, emptied, PushSays, SetSays, AddSays, move-row, raised, changed};
 use super::rows::Move;
 use bounds::refusal::Refusal;
 
@@ -47,7 +48,8 @@ impl<'a, R: Copy> RowList<'a, R> {
 
     // Whether row k, from 1, is taken.
     fn has(&self, k: usize) -> bool
-        ensures { λ r. ⌜ Decides r (Names (length (taken (kept (now (self .entry))))) k) ⌝ }
+        ensures is { λ r. ⌜ Decides r (Names (length (taken (kept (now (self .entry))))) k) ⌝ }
+        ensures supplied { λ r. ⌜ (r ≡ true → (1 ≤ k) × (k ≤ now (self .entry) .used) × (k ≤ length (now (now (self .entry) .rows)))) ⌝ }
     {
         if k > self.rows.len() {
             return false;

@@ -1,6 +1,5 @@
 ghost use mathlib.Core.Path.{_≡_};
-ghost use Prim.Native.Nat.{ℕ, _-_, _<_, _≤_};
-ghost use lib.ListN.{length, getD};
+ghost use Prim.Native.Nat.{_-_, _<_};
 ghost use denote.Ref.{now};
 ghost use Rattle.std.specs.Results.{Cases as ByOk};
 ghost use Rattle.plans.specs.Items.{Item};

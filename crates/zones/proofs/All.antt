@@ -17,7 +17,7 @@ use Rattle.bounds.specs.Bounds.{UpperBound, none, upto, plus, level, Meets, Tig
 use Rattle.zones.specs.Matrices.{Canon, Holds, all-at}
 use Rattle.zones.specs.Codes.{Near, Sound, decode, at, code-all, code-of}
 use Rattle.bounds.specs.Laws.{tight-refl, plus-level, times-is}
-use Rattle.zones.proofs.CodeLims.{lim-below, lim-none}
+use Rattle.zones.proofs.Decoding.{decode-below, decode-none}
 
 -- (0, j) and (i, i) are `<= 0`, and the others none
 all-cases : (i j : ℕ) → i < 9 → j < 9 → (((i ≡ 0) ⊎ (i ≡ j)) × (code-all (9 * i + j) ≡ 33554433)) ⊎ ((i ≡ 0 → ⊥) × (i ≡ j → ⊥) × (code-all (9 * i + j) ≡ 4294967295))
@@ -30,10 +30,10 @@ all-cases i j hi hj = ⊎-elim {C = (((i ≡ 0) ⊎ (i ≡ j)) × (code-all (9 *
     (cases-eq i 0)
 
 level-code : decode 33554433 ≡ level
-level-code = lim-below 33554433 (omega arith)
+level-code = decode-below 33554433 (omega arith)
 
 none-code : decode 4294967295 ≡ none
-none-code = lim-none 4294967295 (omega arith)
+none-code = decode-none 4294967295 (omega arith)
 
 plus-none : (l : UpperBound) → plus l none ≡ none
 unfolding plus

@@ -1,4 +1,4 @@
--- A zone normal back is canonical, and exact
+-- A zone taken back is canonical, and exact
 use mathlib.Core.Path.{_≡_, refl, sym, ap, _∙_, subst}
 use mathlib.Core.Logic.{_⊎_, inl, inr, ⊎-elim}
 use mathlib.Core.Bool.{Bool, true, false, cond}

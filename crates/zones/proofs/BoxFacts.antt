@@ -49,13 +49,13 @@ row-9 s h = ⊎-elim {C = row-of s < 9} (λ e. omega (arith, odd-row s e)) (λ e
 pub column-9 : (s : ℕ) → s < 16 → column-of s < 9
 column-9 s h = ⊎-elim {C = column-of s < 9} (λ e. omega (arith, odd-column s e)) (λ e. omega (arith, even-column s e)) (cases-eq (s % 2) 1)
 
-odd-lim : (sides : List Side) (s : ℕ) → s % 2 ≡ 1 → box-bound sides s ≡ bound-of (side-of sides (s / 2) .upper)
+odd-bound : (sides : List Side) (s : ℕ) → s % 2 ≡ 1 → box-bound sides s ≡ bound-of (side-of sides (s / 2) .upper)
 unfolding box-bound
-odd-lim sides s e = cond-true _ _ _ (eq-eqb _ 1 e)
+odd-bound sides s e = cond-true _ _ _ (eq-eqb _ 1 e)
 
-even-lim : (sides : List Side) (s : ℕ) → (s % 2 ≡ 1 → ⊥) → box-bound sides s ≡ turned (bound-of (side-of sides (s / 2) .lower))
+even-bound : (sides : List Side) (s : ℕ) → (s % 2 ≡ 1 → ⊥) → box-bound sides s ≡ turned (bound-of (side-of sides (s / 2) .lower))
 unfolding box-bound
-even-lim sides s e = cond-false _ _ _ (ne-eqb _ 1 e)
+even-bound sides s e = cond-false _ _ _ (ne-eqb _ 1 e)
 
 fits : (l : UpperBound) → Ordinary l → Beyond l → ⊥
 unfolding Ordinary Beyond
@@ -69,17 +69,17 @@ turned-fits (upto s n) o b = ⊎-elim {C = ⊥} (λ h. omega (arith, ints)) (λ 
 
 not-beyond : (sides : List Side) → Plain sides → (s : ℕ) → s < 16 → Beyond (box-bound sides s) → ⊥
 not-beyond sides p s h b = ⊎-elim {C = ⊥}
-    (λ e. fits _ (p (s / 2) (omega arith) .1) (subst Beyond (odd-lim sides s e) b))
-    (λ e. turned-fits _ (p (s / 2) (omega arith) .0) (subst Beyond (even-lim sides s e) b))
+    (λ e. fits _ (p (s / 2) (omega arith) .1) (subst Beyond (odd-bound sides s e) b))
+    (λ e. turned-fits _ (p (s / 2) (omega arith) .0) (subst Beyond (even-bound sides s e) b))
     (cases-eq (s % 2) 1)
 
 -- the sixteen steps are the eight sides
 pub box-upto : (sides : List Side) (D : ℕ) (v : ℕ → ℤ) → InBox sides D v → Upto sides 16 D v
 box-upto sides D v f m h = ⊎-elim {C = Meets D (v (row-of m) -ℤ v (column-of m)) (box-bound sides m)}
     (λ e. let i : row-of m ≡ suc (m / 2) = odd-row m e ∙ add-one (m / 2) in
-    put (row-of m) (suc (m / 2)) (column-of m) 0 (box-bound sides m) _ i (odd-column m e) (odd-lim sides m e) (f (m / 2) (omega arith) .1))
+    put (row-of m) (suc (m / 2)) (column-of m) 0 (box-bound sides m) _ i (odd-column m e) (odd-bound sides m e) (f (m / 2) (omega arith) .1))
     (λ e. let j : column-of m ≡ suc (m / 2) = even-column m e ∙ add-one (m / 2) in
-    put (row-of m) 0 (column-of m) (suc (m / 2)) (box-bound sides m) _ (even-row m e) j (even-lim sides m e) (f (m / 2) (omega arith) .0))
+    put (row-of m) 0 (column-of m) (suc (m / 2)) (box-bound sides m) _ (even-row m e) j (even-bound sides m e) (f (m / 2) (omega arith) .0))
     (cases-eq (m % 2) 1)
   where
     put : (a a′ b b′ : ℕ) (l l′ : UpperBound) → a ≡ a′ → b ≡ b′ → l ≡ l′ → Meets D (v a′ -ℤ v b′) l′ → Meets D (v a -ℤ v b) l
@@ -92,8 +92,8 @@ upto-box sides D v f k h =
     let h0 : (2 * k) / 2 ≡ k = omega arith in
     let h1 : (2 * k + 1) / 2 ≡ k = omega arith in
     let k1 : k + 1 ≡ suc k = add-one k in (
-      get (row-of (2 * k)) 0 (column-of (2 * k)) (suc k) _ _ (even-row (2 * k) e0) (even-column (2 * k) e0 ∙ ap (λ n. n + 1) h0 ∙ k1) (even-lim sides (2 * k) e0 ∙ ap (λ n. turned (bound-of (side-of sides n .lower))) h0) (f (2 * k) (omega arith)),
-      get (row-of (2 * k + 1)) (suc k) (column-of (2 * k + 1)) 0 _ _ (odd-row (2 * k + 1) e1 ∙ ap (λ n. n + 1) h1 ∙ k1) (odd-column (2 * k + 1) e1) (odd-lim sides (2 * k + 1) e1 ∙ ap (λ n. bound-of (side-of sides n .upper)) h1) (f (2 * k + 1) (omega arith)),
+      get (row-of (2 * k)) 0 (column-of (2 * k)) (suc k) _ _ (even-row (2 * k) e0) (even-column (2 * k) e0 ∙ ap (λ n. n + 1) h0 ∙ k1) (even-bound sides (2 * k) e0 ∙ ap (λ n. turned (bound-of (side-of sides n .lower))) h0) (f (2 * k) (omega arith)),
+      get (row-of (2 * k + 1)) (suc k) (column-of (2 * k + 1)) 0 _ _ (odd-row (2 * k + 1) e1 ∙ ap (λ n. n + 1) h1 ∙ k1) (odd-column (2 * k + 1) e1) (odd-bound sides (2 * k + 1) e1 ∙ ap (λ n. bound-of (side-of sides n .upper)) h1) (f (2 * k + 1) (omega arith)),
     )
   where
     get : (a a′ b b′ : ℕ) (l l′ : UpperBound) → a ≡ a′ → b ≡ b′ → l ≡ l′ → Meets D (v a -ℤ v b) l → Meets D (v a′ -ℤ v b′) l′

@@ -35,7 +35,7 @@ plus-level-right : (a : UpperBound) → plus a level ≡ a
 plus-level-right a = plus-comm a level ∙ plus-level a
 
 module _ (Z : ℕ → ℕ → UpperBound) (can : Canon Z) (i j : ℕ) (p : i < 9) (q : j < 9) (c : UpperBound) where
-  -- no way round by the new limit is tighter than `<= 0`
+  -- no way round by the new bound is tighter than `<= 0`
   turn : Tight level (plus (Z j i) c) → (a : ℕ) → a < 9 → Tight level (plus (plus (Z j a) (Z a i)) c)
   turn ok a h = tight-trans _ _ _ ok (tight-plus _ _ _ _ (can .around j i a q p h) (tight-refl c))
 

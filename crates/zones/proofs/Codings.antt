@@ -16,13 +16,13 @@ use Rattle.std.proofs.shelf.Tests.{cases-lt, cases-eq, cases-bool, lt-ltb, le-l
 use Rattle.bounds.specs.Bounds.{UpperBound, none, upto, plus, level, Tight, bit}
 use Rattle.zones.specs.Matrices.{tighter, front-of, back-at, zeroed, free-at}
 use Rattle.zones.specs.Codes.{Near, decode, at, code-front, code-back, code-free, code-of}
-use Rattle.zones.proofs.CodeLims.{lim-below, lim-none, lim-min, bit-odd}
+use Rattle.zones.proofs.Decoding.{decode-below, decode-none, lim-min, bit-odd}
 
 pub level-code : decode 33554433 ≡ level
-level-code = lim-below 33554433 (omega arith)
+level-code = decode-below 33554433 (omega arith)
 
 pub none-code : decode 4294967295 ≡ none
-none-code = lim-none 4294967295 (omega arith)
+none-code = decode-none 4294967295 (omega arith)
 
 -- a tighter bound has the smaller code
 pub code-le : (a b : ℕ) → a ≤ 4294967295 → Tight (decode a) (decode b) → a ≤ b
@@ -30,11 +30,11 @@ unfolding Tight
 code-le a b h t = ⊎-elim {C = a ≤ b}
     (λ lt.
     let lb : b < 4294967295 = omega arith in
-    let u = subst (Tight (decode a)) (lim-below b lb) t in
+    let u = subst (Tight (decode a)) (decode-below b lb) t in
     ⊎-elim {C = a ≤ b}
-    (λ la. let w = subst (λ l. Tight l (upto (eqb (b % 2) 1) (pos (b / 2) -ℤ pos 16777216))) (lim-below a la) u in
+    (λ la. let w = subst (λ l. Tight l (upto (eqb (b % 2) 1) (pos (b / 2) -ℤ pos 16777216))) (decode-below a la) u in
     omega (arith, ints, w, bit-odd (a % 2) (omega arith), bit-odd (b % 2) (omega arith)))
-    (λ la. absurd (subst (λ l. Tight l (upto (eqb (b % 2) 1) (pos (b / 2) -ℤ pos 16777216))) (lim-none a la) u))
+    (λ la. absurd (subst (λ l. Tight l (upto (eqb (b % 2) 1) (pos (b / 2) -ℤ pos 16777216))) (decode-none a la) u))
     (cases-lt a 4294967295))
     (λ le. le)
     (cases-lt b a)
@@ -73,11 +73,11 @@ back-near xs p hp h = ⊎-elim {C = Near 4000000 (code-back xs p)}
     (λ l. subst (Near 4000000) (back-other xs p l) (h p hp))
     (cases-lt p 9)
 
-pub back-lim : (xs : List Code) (a b : ℕ) → a < 9 → b < 9 → decode (code-back xs (9 * a + b)) ≡ back-at (at xs) a b
-back-lim xs zero b ha hb =
+pub back-bound : (xs : List Code) (a b : ℕ) → a < 9 → b < 9 → decode (code-back xs (9 * a + b)) ≡ back-at (at xs) a b
+back-bound xs zero b ha hb =
     let e : 9 * 0 + b ≡ b = omega arith in
     ap (λ p. decode (code-back xs p)) e ∙ ap decode (sym (back-first xs b hb)) ∙ front-lim xs 8 b
-back-lim xs (suc a) b ha hb = ap decode (sym (back-other xs (9 * suc a + b) (omega arith)))
+back-bound xs (suc a) b ha hb = ap decode (sym (back-other xs (9 * suc a + b) (omega arith)))
 
 -- ---- letting go
 module _ (r : ℕ → Bool) (xs : List Code) where
@@ -111,9 +111,9 @@ module _ (r : ℕ → Bool) (xs : List Code) where
       (cases-bool (r (p / 9))))
       (cases-eq (p / 9) (p % 9))
 
-  pub free-lim : (a b : ℕ) → a < 9 → b < 9 → decode (code-free r xs (9 * a + b)) ≡ free-at r (at xs) a b
+  pub free-bound : (a b : ℕ) → a < 9 → b < 9 → decode (code-free r xs (9 * a + b)) ≡ free-at r (at xs) a b
   unfolding code-free
-  free-lim a b ha hb =
+  free-bound a b ha hb =
       let row : (9 * a + b) / 9 ≡ a = omega arith in
       let column : (9 * a + b) % 9 ≡ b = omega arith in
       ap (λ n. decode (cond (eqb n ((9 * a + b) % 9)) 33554433 (cond (r n) 4294967295 (code-of xs (9 * n + cond (r ((9 * a + b) % 9)) 0 ((9 * a + b) % 9)))))) row

@@ -18,11 +18,11 @@ use Rattle.bounds.specs.Sums.{Vast}
 use Rattle.bounds.specs.Domains.{Alike}
 use Rattle.zones.specs.Matrices.{tighter, Canon, Holds, cut-at}
 use Rattle.zones.specs.Codes.{Near, Sound, code-plus, code-cut, decode, at, code-of}
-use Rattle.zones.specs.Cuts.{OfDomain, Left, Far, Over, Beyond}
+use Rattle.zones.specs.Cuts.{OfDomain, Left, Far, Over, Beyond, CodeOf, Fit, CutOver, CutEmpty, CutKept}
 use Rattle.bounds.specs.Laws.{tight-same, tight-refl, tight-total}
 use Rattle.zones.proofs.Canon.{cut-canon, cut-holds, cut-back, cut-empty}
 use Rattle.zones.proofs.CodeFacts.{near-plus, near-more}
-use Rattle.zones.proofs.CodeLims.{lim-below, lim-none, lim-tight, lim-plus, lim-cut, canon-same, bit-odd, tighter-first}
+use Rattle.zones.proofs.Decoding.{decode-below, decode-none, decode-tight, decode-plus, decode-cut, canon-same, bit-odd, tighter-first}
 use Rattle.bounds.proofs.ScaleLaws.{ScaleLaws}
 use Rattle.bounds.proofs.Apart.{close as close-numbers, normal-twice, normal-none}
 use Rattle.zones.proofs.Extend.{normal-cut}
@@ -39,28 +39,28 @@ same-flags true false e = e
 same-flags false true e = sym e
 same-flags false false e = refl
 
--- a place that came back as it was
-pub kept-place : (normal : UpperBound → UpperBound) (k : ℕ) (s t : Bool) (m n : ℤ) → upto s m ≡ decode k → upto t n ≡ normal (upto s m) → not (Bool·beq t s) ≡ false → n ≡ m → normal (decode k) ≡ decode k
-kept-place normal k s t m n e f g h = ap normal (sym e) ∙ sym f ∙ ap (λ u. upto u n) (same-flags t s g) ∙ ap (upto s) h ∙ e
+-- a bound that came back as it was
+pub same-bound : (normal : UpperBound → UpperBound) (k : ℕ) (s t : Bool) (m n : ℤ) → upto s m ≡ decode k → upto t n ≡ normal (upto s m) → not (Bool·beq t s) ≡ false → n ≡ m → normal (decode k) ≡ decode k
+same-bound normal k s t m n e f g h = ap normal (sym e) ∙ sym f ∙ ap (λ u. upto u n) (same-flags t s g) ∙ ap (upto s) h ∙ e
 
 -- a code below that of `<= 0` is tighter
 pub under-level : (k : ℕ) → k < 33554433 → Tight level (decode k) → ⊥
 unfolding Tight
 under-level k h t =
-    let u : Tight level (upto (eqb (k % 2) 1) (pos (k / 2) -ℤ pos 16777216)) = subst (Tight level) (lim-below k (omega arith)) t in
+    let u : Tight level (upto (eqb (k % 2) 1) (pos (k / 2) -ℤ pos 16777216)) = subst (Tight level) (decode-below k (omega arith)) t in
     omega (arith, ints, u, bit-odd (k % 2) (omega arith))
 
 pub from-level : (k : ℕ) → 33554433 ≤ k → Tight level (decode k)
-from-level k h = subst (λ l. Tight l (decode k)) level-code (lim-tight 33554433 k h)
+from-level k h = subst (λ l. Tight l (decode k)) level-code (decode-tight 33554433 k h)
   where
     level-code : decode 33554433 ≡ level
-    level-code = lim-below 33554433 (omega arith)
+    level-code = decode-below 33554433 (omega arith)
 
 -- a code that is not near is far
 pub far-code : (k : ℕ) → k ≤ 4294967295 → (Near 4000000 k → ⊥) → Far (decode k)
 unfolding Far
 far-code k le n = ⊎-elim {C = Far (decode k)}
-    (λ h. subst Far (sym (lim-below k h))
+    (λ h. subst Far (sym (decode-below k h))
     (⊎-elim {C = Far (upto (eqb (k % 2) 1) (pos (k / 2) -ℤ pos 16777216))}
     (λ a. inl (omega (arith, ints)))
     (λ a. ⊎-elim {C = Far (upto (eqb (k % 2) 1) (pos (k / 2) -ℤ pos 16777216))}
@@ -74,8 +74,8 @@ far-code k le n = ⊎-elim {C = Far (decode k)}
 pub near-code : (k : ℕ) → Near 4000000 k → Far (decode k) → ⊥
 unfolding Far
 near-code k n f = ⊎-elim {C = ⊥}
-    (λ h. let r = n .0 h in ⊎-elim {C = ⊥} (λ a. omega (arith, ints)) (λ a. omega (arith, ints)) (subst Far (lim-below k h) f))
-    (λ h. subst Far (lim-none k h) f)
+    (λ h. let r = n .0 h in ⊎-elim {C = ⊥} (λ a. omega (arith, ints)) (λ a. omega (arith, ints)) (subst Far (decode-below k h) f))
+    (λ h. subst Far (decode-none k h) f)
     (cases-lt k 4294967295)
 
 module _ {allows : ℕ → Bool} {normal : UpperBound → UpperBound} (K : ScaleLaws allows normal) (xs : List Code) (s : Sound xs) (keeps : OfDomain normal xs)
@@ -84,7 +84,7 @@ module _ {allows : ℕ → Bool} {normal : UpperBound → UpperBound} (K : Scale
   keeps-at a b ha hb = keeps (9 * a + b) (omega arith)
 
   way : decode (code-plus (code-of xs (9 * j + i)) c) ≡ plus (at xs j i) (normal l)
-  way = lim-plus 4000000 1000001 _ _ (omega arith) (s .near (9 * j + i) (omega arith)) nc ∙ ap (plus (at xs j i)) ec
+  way = decode-plus 4000000 1000001 _ _ (omega arith) (s .near (9 * j + i) (omega arith)) nc ∙ ap (plus (at xs j i)) ec
 
   pub none-left : code-plus (code-of xs (9 * j + i)) c < 33554433 → (D : ℕ) (v : ℕ → ℤ) → Left allows i j l xs D v → ⊥
   none-left h D v left =
@@ -92,7 +92,7 @@ module _ {allows : ℕ → Bool} {normal : UpperBound → UpperBound} (K : Scale
       (cut-empty (at xs) i j hi hj (normal l) D (K .positive D (left .0)) v (left .1) (K .same D l (left .0) (v i -ℤ v j) .0 (left .2))))
 
   cut-code : (a b : ℕ) → a < 9 → b < 9 → decode (code-cut xs i j c (9 * a + b)) ≡ cut-at (at xs) i j (normal l) a b
-  cut-code a b ha hb = lim-cut xs i j c a b hi hj ha hb (s .near) nc ∙ ap (λ m. cut-at (at xs) i j m a b) ec
+  cut-code a b ha hb = decode-cut xs i j c a b hi hj ha hb (s .near) nc ∙ ap (λ m. cut-at (at xs) i j m a b) ec
 
   module _ (some : 33554433 ≤ code-plus (code-of xs (9 * j + i)) c) where
     ok : Tight level (plus (at xs j i) (normal l))
@@ -155,6 +155,38 @@ module _ {allows : ℕ → Bool} {normal : UpperBound → UpperBound} (K : Scale
       cut-le : (p : ℕ) → p < 81 → code-cut xs i j c p ≤ 4294967295
       cut-le p h = omega (arith, s .near p h .1)
 
+-- what a fit cut by a bound with the code c answers
+module _ {allows : ℕ → Bool} {normal : UpperBound → UpperBound} (K : ScaleLaws allows normal) (xs : List Code) (s : Sound xs) (i j : ℕ) (b : UpperBound)
+    (fit : Fit normal i j b xs) (c : ℕ) (code : CodeOf (normal b) c) where
+  pub cut-empties : code-plus (code-of xs (9 * j + i)) c < 33554433 → CutEmpty allows normal i j b xs xs
+  cut-empties h = record {
+    fit = fit;
+    gone = none-left K xs s (fit .of-domain) i j (fit .row) (fit .column) b c (code .near) (code .is) h;
+    unchanged = refl;
+  }
+
+  module _ (some : 33554433 ≤ code-plus (code-of xs (9 * j + i)) c) where
+    pub cut-overs : ((p : ℕ) × (p < 81) × (Near 4000000 (code-cut xs i j c p) → ⊥)) → CutOver allows normal i j b xs xs
+    cut-overs o = record {
+      fit = fit;
+      some = some-left K xs s (fit .of-domain) i j (fit .row) (fit .column) b c (code .near) (code .is) some;
+      over = over K xs s (fit .of-domain) i j (fit .row) (fit .column) b c (code .near) (code .is) o;
+      unchanged = refl;
+    }
+
+    module _ (ys : List Code) (is : (p : ℕ) → p < 81 → (code-of ys p ≡ code-cut xs i j c p) × Near 4000000 (code-cut xs i j c p)) where
+      pub cut-sound : Sound ys
+      cut-sound = still-sound K xs s (fit .of-domain) i j (fit .row) (fit .column) b c (code .near) (code .is) some ys is
+
+      pub cut-keeps : CutKept allows normal i j b xs ys
+      cut-keeps = record {
+        fit = fit;
+        in-range = not-over K xs s (fit .of-domain) i j (fit .row) (fit .column) b c (code .near) (code .is) some ys is;
+        of-domain = still-kept K xs s (fit .of-domain) i j (fit .row) (fit .column) b c (code .near) (code .is) some ys is;
+        bounds = at-is K xs s (fit .of-domain) i j (fit .row) (fit .column) b c (code .near) (code .is) some ys is;
+        states = exact K xs s (fit .of-domain) i j (fit .row) (fit .column) b c (code .near) (code .is) some ys is;
+      }
+
 pub not-beyond : (s : Bool) (n : ℤ) → negsuc 999999 ≤ℤ n → n ≤ℤ pos 1000000 → Beyond (upto s n) → ⊥
 unfolding Beyond
 not-beyond s n h k b = ⊎-elim {C = ⊥} (λ a. omega (arith, ints)) (λ a. omega (arith, ints)) b
@@ -175,7 +207,7 @@ pub not-vast : (s : Bool) (n : ℤ) → negsuc 3999999 ≤ℤ n → n ≤ℤ pos
 unfolding Vast
 not-vast s n h k b = ⊎-elim {C = ⊥} (λ a. omega (arith, ints)) (λ a. omega (arith, ints)) b
 
--- what the time takes a limit in as is close by
+-- the normal form of a bound is close by
 pub close : {allows : ℕ → Bool} {normal : UpperBound → UpperBound} (K : ScaleLaws allows normal) (s t : Bool) (m n : ℤ) → upto t n ≡ normal (upto s m) → (n ≤ℤ (m +ℤ pos 1)) × (m ≤ℤ (n +ℤ pos 1))
 close K s t m n e = close-numbers s t m n (subst (Alike 1 (upto s m)) (sym e) (K .same 1 (upto s m) (K .one)))
 

@@ -1,4 +1,4 @@
--- One more clock: where every lower and every upper limit on it agree two by two, one value meets them all, at some multiple of the scale
+-- One more clock: where every lower and every upper bound on it agree two by two, one value meets them all, at some multiple of the scale
 use mathlib.Core.Path.{_≡_, refl, sym, ap, _∙_, subst}
 use mathlib.Core.Logic.{_⊎_, inl, inr, ⊎-elim}
 use mathlib.Core.Bool.{Bool, true, false, cond}

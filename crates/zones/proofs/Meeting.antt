@@ -17,20 +17,20 @@ use Rattle.bounds.specs.Laws.{times-is, times-plus}
 use Rattle.zones.specs.Codes.{decode, at, code-of}
 use Rattle.zones.specs.Matrices.{Holds}
 use Rattle.zones.specs.States.{value-of, reading}
-use Rattle.zones.proofs.CodeLims.{lim-below, lim-none}
+use Rattle.zones.proofs.Decoding.{decode-below, decode-none}
 
 product : (n D : ℕ) → (pos n -ℤ pos 16777216) *ℤ pos D ≡ pos (n * D) -ℤ pos (16777216 * D)
 product n D = omega (arith, ints, times-plus (pos n) (negsuc 16777215) D, times-is (pos n) D, times-is (negsuc 16777215) D)
 
 pub met-none : (k D : ℕ) (d : ℤ) → 4294967295 ≤ k → Meets D d (decode k)
 unfolding Meets
-met-none k D d h = subst (Meets D d) (sym (lim-none k h)) tt
+met-none k D d h = subst (Meets D d) (sym (decode-none k h)) tt
 
 closed-is : (k : ℕ) → k < 4294967295 → k % 2 ≡ 1 → decode k ≡ upto true (pos (k / 2) -ℤ pos 16777216)
-closed-is k h e = lim-below k h ∙ ap (λ b. upto b (pos (k / 2) -ℤ pos 16777216)) (eq-eqb (k % 2) 1 e)
+closed-is k h e = decode-below k h ∙ ap (λ b. upto b (pos (k / 2) -ℤ pos 16777216)) (eq-eqb (k % 2) 1 e)
 
 open-is : (k : ℕ) → k < 4294967295 → (k % 2 ≡ 1 → ⊥) → decode k ≡ upto false (pos (k / 2) -ℤ pos 16777216)
-open-is k h e = lim-below k h ∙ ap (λ b. upto b (pos (k / 2) -ℤ pos 16777216)) (ne-eqb (k % 2) 1 e)
+open-is k h e = decode-below k h ∙ ap (λ b. upto b (pos (k / 2) -ℤ pos 16777216)) (ne-eqb (k % 2) 1 e)
 
 pub met-closed : (k D a b : ℕ) → k < 4294967295 → k % 2 ≡ 1
     → (leb (a + 16777216 * D) (b + (k / 2) * D) ≡ true → Meets D (pos a -ℤ pos b) (decode k)) × (Meets D (pos a -ℤ pos b) (decode k) → leb (a + 16777216 * D) (b + (k / 2) * D) ≡ true)

@@ -20,10 +20,10 @@ use Rattle.zones.specs.Codes.{Near, Sound, decode, at, code-back, code-free, c
 use Rattle.zones.specs.Cuts.{OfDomain}
 use Rattle.zones.specs.Resets.{Stuck, Zeroed}
 use Rattle.zones.specs.Calls.{Leads, Inside}
-use Rattle.zones.proofs.CodeLims.{canon-same, lim-tight, lim-below}
+use Rattle.zones.proofs.Decoding.{canon-same, decode-tight, decode-below}
 use Rattle.zones.proofs.Extend.{normal-cut}
 use Rattle.bounds.proofs.Apart.{normal-none}
-use Rattle.zones.proofs.Codings.{back-near, back-lim, free-near, free-lim, code-le}
+use Rattle.zones.proofs.Codings.{back-near, back-bound, free-near, free-bound, code-le}
 use Rattle.zones.proofs.Backward.{front-one, back-canon, back-in, back-out}
 use Rattle.zones.proofs.Undo.{free-canon, free-in, free-out}
 use Rattle.zones.proofs.Within.{within-in, within-out}
@@ -46,7 +46,7 @@ moved Y Z e D v h a b ha hb = subst (Meets D (v a -ℤ v b)) (e a b ha hb) (h a 
 -- ---- back
 module _ (xs ys : List Code) (s : Sound xs) (is : (p : ℕ) → p < 81 → code-of ys p ≡ code-back xs p) where
   pub back-is : (a b : ℕ) → a < 9 → b < 9 → at ys a b ≡ back-at (at xs) a b
-  back-is a b ha hb = ap decode (is (9 * a + b) (omega arith)) ∙ back-lim xs a b ha hb
+  back-is a b ha hb = ap decode (is (9 * a + b) (omega arith)) ∙ back-bound xs a b ha hb
 
   pub back-sound : Sound ys
   back-sound = record {
@@ -100,7 +100,7 @@ module _ (r q : ℕ → Bool) (agree : (i : ℕ) → i < 9 → r i ≡ q i) wher
 
 module _ (r : ℕ → Bool) (r0 : r 0 ≡ false) (xs zs ys : List Code) (z : Zeroed r xs zs 9) (is : (p : ℕ) → p < 81 → code-of ys p ≡ code-free r zs p) where
   pub undo-is : (a b : ℕ) → a < 9 → b < 9 → at ys a b ≡ free-at r (at zs) a b
-  undo-is a b ha hb = ap decode (is (9 * a + b) (omega arith)) ∙ free-lim r zs a b ha hb
+  undo-is a b ha hb = ap decode (is (9 * a + b) (omega arith)) ∙ free-bound r zs a b ha hb
 
   at-zero : (j : ℕ) → j < 9 → r j ≡ true → Tight (at zs j 0) level
   at-zero j h e = z .zero j h h e
@@ -149,7 +149,7 @@ module _ (r : ℕ → Bool) (r0 : r 0 ≡ false) (xs zs ys : List Code) (z : Zer
 -- ---- within
 module _ {allows : ℕ → Bool} {normal : UpperBound → UpperBound} (K : ScaleLaws allows normal) (xs ys : List Code) (s : Sound xs) (near : (p : ℕ) → p < 81 → Near 4000000 (code-of ys p)) (keeps : OfDomain normal xs) where
   pub within-yes : ((p : ℕ) → p < 81 → code-of xs p ≤ code-of ys p) → Inside allows xs ys
-  within-yes f D v al rd h = within-in (at xs) (at ys) (λ i j hi hj. lim-tight _ _ (f (9 * i + j) (omega arith))) D (K .positive D al) v h
+  within-yes f D v al rd h = within-in (at xs) (at ys) (λ i j hi hj. decode-tight _ _ (f (9 * i + j) (omega arith))) D (K .positive D al) v h
 
   pub within-no : (p : ℕ) → p < 81 → code-of ys p < code-of xs p → Inside allows xs ys → ⊥
   within-no p hp lt f =
@@ -168,7 +168,7 @@ module _ {allows : ℕ → Bool} {normal : UpperBound → UpperBound} (K : Scale
       w .3 (f (t .0) v (w .1) (w .0, no-less K (at xs) (s .canon) (keeps-at normal xs keeps) (t .0) v (K .positive (t .0) (w .1)) (w .0) (w .2)) (w .2) (p / 9) (p % 9) hi hj)
     where
       not-none : (k : ℕ) → k < 4294967295 → decode k ≡ none → ⊥
-      not-none k h e = let f = sym (lim-below k h) ∙ e in let z : _≡_ {A = ℕ} 0 1 = cc in omega arith
+      not-none k h e = let f = sym (decode-below k h) ∙ e in let z : _≡_ {A = ℕ} 0 1 = cc in omega arith
 
       absurd-lt : (a b : ℕ) → a ≤ 4294967295 → b < a → Tight (decode a) (decode b) → ⊥
       absurd-lt a b h l t = let q = code-le a b h t in omega arith

@@ -45,7 +45,7 @@ plus-level-right : (a : UpperBound) → plus a level ≡ a
 plus-level-right a = plus-comm a level ∙ plus-level a
 
 module _ (r : ℕ → Bool) (r0 : r 0 ≡ false) (Z : ℕ → ℕ → UpperBound) (can : Canon Z) (at-zero : (j : ℕ) → j < 9 → r j ≡ true → Tight (Z j 0) level) where
-  -- the three cases of a place
+  -- the three cases of a bound
   same : (i j : ℕ) → i ≡ j → free-at r Z i j ≡ level
   same i j e = cond-true _ _ _ (eq-eqb i j e)
 

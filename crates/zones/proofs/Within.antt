@@ -1,4 +1,4 @@
--- A zone lies within another exactly if it is as tight at every place
+-- A zone lies within another exactly if it is as tight at every (i, j)
 use mathlib.Core.Path.{_≡_, refl, sym, ap, _∙_, subst}
 use mathlib.Core.Logic.{_⊎_, inl, inr, ⊎-elim}
 use mathlib.Core.Bool.{Bool, true, false, cond}

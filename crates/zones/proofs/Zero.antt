@@ -19,7 +19,7 @@ use Rattle.zones.specs.Matrices.{tighter, Canon, Holds, cut-at, zeroed, zero-a
 use Rattle.zones.specs.Codes.{Near, Sound, decode, at, code-plus, code-cut, code-of}
 use Rattle.zones.specs.Resets.{Stuck, Zeroed}
 use Rattle.zones.proofs.Canon.{cut-canon, cut-holds, cut-back, zero-meets, tighter-left, tighter-right}
-use Rattle.zones.proofs.CodeLims.{lim-cut, canon-same}
+use Rattle.zones.proofs.Decoding.{decode-cut, canon-same}
 use Rattle.zones.proofs.CutFacts.{from-level, under-level}
 use Rattle.zones.proofs.Codings.{level-code, code-le}
 
@@ -68,7 +68,7 @@ module _ (xs : List Code) (s : Sound xs) (k : ℕ) (hk : k < 9) (ok : 33554433 �
       near-zero-code (code-of xs p) (code-of xs (9 * (p / 9) + k)) (code-of xs (9 * 0 + p % 9)) x y z h1 h2 h3
 
   pub zero-lim : (a b : ℕ) → a < 9 → b < 9 → decode (code-cut xs k 0 33554433 (9 * a + b)) ≡ cut-at (at xs) k 0 level a b
-  zero-lim a b ha hb = lim-cut xs k 0 33554433 a b hk (omega arith) ha hb (s .near) near-level ∙ ap (λ l. cut-at (at xs) k 0 l a b) level-code
+  zero-lim a b ha hb = decode-cut xs k 0 33554433 a b hk (omega arith) ha hb (s .near) near-level ∙ ap (λ l. cut-at (at xs) k 0 l a b) level-code
 
   pub zero-ok : Tight level (plus (at xs 0 k) level)
   zero-ok = subst (Tight level) (sym (plus-level-right (at xs 0 k))) low

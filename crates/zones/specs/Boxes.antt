@@ -42,7 +42,7 @@ unfoldable pub turned : UpperBound → UpperBound
 turned none = none
 turned (upto s c) = upto s (negℤ c)
 
--- the bound of step s, and the place that it is cut at
+-- the bound of step s, and the row and column that it is cut at
 unfoldable pub box-bound : List Side → ℕ → UpperBound
 box-bound sides s = cond (eqb (s % 2) 1) (bound-of (side-of sides (s / 2) .upper)) (turned (bound-of (side-of sides (s / 2) .lower)))
 
@@ -60,12 +60,12 @@ InBox sides D v = (k : ℕ) → k < 8 → Meets D (v 0 -ℤ v (suc k)) (turned (
 abbrev pub Upto : List Side → ℕ → ℕ → (ℕ → ℤ) → Type 0
 Upto sides n D v = (m : ℕ) → m < n → Meets D (v (row-of m) -ℤ v (column-of m)) (box-bound sides m)
 
--- the codes after n steps
+-- the zone after n steps
 unfoldable pub boxed : (UpperBound → UpperBound) → List Side → (ℕ → ℕ → UpperBound) → ℕ → ℕ → ℕ → UpperBound
 boxed normal sides Z zero a b = Z a b
 boxed normal sides Z (suc n) a b = cut-at (boxed normal sides Z n) (row-of n) (column-of n) (normal (box-bound sides n)) a b
 
--- a place is beyond what a zone keeps after step n
+-- a number is beyond what a zone keeps after step n
 abbrev pub OverAt : (UpperBound → UpperBound) → List Side → (ℕ → ℕ → UpperBound) → ℕ → Type 0
 OverAt normal sides Z n = (a : ℕ) × ((b : ℕ) × ((a < 9) × (b < 9) × Far (boxed normal sides Z (suc n) a b)))
 

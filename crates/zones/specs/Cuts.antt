@@ -15,7 +15,7 @@ use Rattle.bounds.specs.Bounds.{UpperBound, none, upto, Meets}
 use Rattle.zones.specs.declared.zone.Cut.{Cut}
 use Rattle.zones.specs.declared.zone.Cut.the-variants as cut
 use Rattle.zones.specs.Matrices.{Holds, cut-at}
-use Rattle.zones.specs.Codes.{at, decode, code-of}
+use Rattle.zones.specs.Codes.{Near, at, decode, code-of}
 use Rattle.zones.specs.Refused.{Refused}
 
 -- the zone is of the time domain: every bound of it is in normal form
@@ -39,6 +39,11 @@ Far (upto s n) = (n <ℤ negsuc 3999999) ⊎ (pos 4000000 <ℤ n)
 -- some bound of the result has a number that no zone has
 abbrev pub Over : (UpperBound → UpperBound) → ℕ → ℕ → UpperBound → List Code → Type 0
 Over normal i j b xs = (p : ℕ) × ((q : ℕ) × ((p < 9) × (q < 9) × Far (cut-at (at xs) i j (normal b) p q)))
+
+-- a code of the bound b, with a number that a normal form of a cut's bound may have
+pub record CodeOf (b : UpperBound) (code : ℕ) : Type 0 where
+  pub is : decode code ≡ b
+  pub near : Near 1000001 code
 
 -- the call is fit: the clocks exist, the number is in range, and the zone is of the time domain
 pub record Fit (normal : UpperBound → UpperBound) (i j : ℕ) (b : UpperBound) (xs : List Code) : Type 0 where

@@ -1,4 +1,4 @@
--- Zones as functions from codes to limits.
+-- Zones as matrices: from two clocks i and j to the upper bound on reading i minus reading j.
 use mathlib.Core.Path.{_≡_}
 use mathlib.Core.Bool.{Bool, true, false, cond}
 use Prim.Native.Nat.{ℕ, zero, suc, _<_}
@@ -19,7 +19,7 @@ pub record Canon (Z : ℕ → ℕ → UpperBound) : Type 0 where
   pub front : (j : ℕ) → j < 9 → Tight (Z 0 j) level
   pub around : (i j k : ℕ) → i < 9 → j < 9 → k < 9 → Tight (Z i j) (plus (Z i k) (Z k j))
 
--- the readings v at the scale D meet every place
+-- the readings v at the scale D meet every bound
 abbrev pub Holds : (ℕ → ℕ → UpperBound) → ℕ → (ℕ → ℤ) → Type 0
 Holds Z D v = (i j : ℕ) → i < 9 → j < 9 → Meets D (v i -ℤ v j) (Z i j)
 
@@ -31,12 +31,12 @@ all-at i j = cond (eqb i 0) level (cond (eqb i j) level none)
 abbrev pub cut-at : (ℕ → ℕ → UpperBound) → ℕ → ℕ → UpperBound → ℕ → ℕ → UpperBound
 cut-at Z i j c a b = tighter (Z a b) (plus (plus (Z a i) c) (Z j b))
 
--- the tightest of `<= 0` and the codes (1, j) to (n, j)
+-- the tightest of `<= 0` and the bounds at (1, j) to (n, j)
 abbrev pub front-of : (ℕ → ℕ → UpperBound) → ℕ → ℕ → UpperBound
 front-of Z zero j = level
 front-of Z (suc n) j = tighter (front-of Z n j) (Z (suc n) j)
 
--- Z normal back
+-- Z taken back
 abbrev pub back-at : (ℕ → ℕ → UpperBound) → ℕ → ℕ → UpperBound
 back-at Z zero j = front-of Z 8 j
 back-at Z (suc i) j = Z (suc i) j

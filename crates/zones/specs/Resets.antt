@@ -20,7 +20,7 @@ among cs (suc n) i = among cs n i || eqb (getD cs n 0) i
 unfoldable pub reset : List ℕ → ℕ → Bool
 reset cs i = ltb 0 i && among cs (length cs) i
 
--- no state lies in the codes once the clocks in r are set to 0
+-- no state lies in the zone once the clocks in r are set to 0
 abbrev pub Stuck : (ℕ → Bool) → List Code → Type 0
 Stuck r xs = (D : ℕ) → 1 ≤ D → (v : ℕ → ℤ) → v 0 ≡ pos 0 → Holds (at xs) D (λ k. v (zeroed r k)) → ⊥
 

@@ -7,7 +7,7 @@ use crate::codes::LEVEL;
 use crate::codes::NONE;
 use crate::codes::tighter_code;
 
-// The tightest of `<= 0` and the codes (1, j) to (8, j).
+// The tightest of `<= 0` and the bounds at (1, j) to (8, j).
 fn front(codes: &[Code; 81], j: usize) -> Code
     requires { ⌜ j < 9 ⌝ }
     ensures { λ r. ⌜ r .0 ≡ code-front (now (codes .entry)) 8 j ⌝ }
@@ -19,7 +19,7 @@ fn front(codes: &[Code; 81], j: usize) -> Code
     best
 }
 
-// A place of the zone normal back.
+// The code at p of the zone taken back.
 fn back_code(codes: &[Code; 81], p: usize) -> Code
     requires { ⌜ p < 81 ⌝ }
     ensures { λ r. ⌜ r .0 ≡ code-back (now (codes .entry)) p ⌝ }
@@ -27,7 +27,7 @@ fn back_code(codes: &[Code; 81], p: usize) -> Code
     if p < 9 { front(codes, p) } else { codes[p] }
 }
 
-// The zone normal back.
+// The zone taken back.
 pub fn backed(codes: &[Code; 81]) -> [Code; 81]
     ensures { λ r. ⌜ ((p : ℕ) → p < 81 → code-of r p ≡ code-back (now (codes .entry)) p) ⌝ }
 {

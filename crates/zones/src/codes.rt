@@ -9,7 +9,7 @@ ghost use lib.IntN.{pos, negsuc};
 ghost use lib.Signed.{_≤ℤ_};
 use bounds::bound::Bound;
 
-// A bound's code.
+// A bound's code, of which the smaller is the tighter: twice its number, shifted by BIAS, and 1 more for `<=`.
 #[derive(Clone, Copy)]
 pub struct Code(pub u32);
 
@@ -22,7 +22,7 @@ pub const REACH: u32 = 4_000_000;
 // The code of `<= 0`.
 pub const LEVEL: Code = Code(33_554_433);
 
-// The code of the sum of two limits.
+// The code of the sum of two bounds.
 pub fn joined(a: Code, b: Code) -> Code
     requires { ⌜ Near 6000000 (a .0) ⌝ ∗ ⌜ Near 6000000 (b .0) ⌝ }
     ensures { λ r. ⌜ r .0 ≡ code-plus (a .0) (b .0) ⌝ }
@@ -48,7 +48,7 @@ pub fn near(a: Code) -> bool
     a.0 == u32::MAX || (2 * (BIAS - REACH) <= a.0 && a.0 <= 2 * (BIAS + REACH) + 1)
 }
 
-// Every place, tightened by the way through the new limit; none if one is then out of reach.
+// Every bound, tightened by the way through the new bound c at (i, j); none if a number is then out of reach.
 pub fn tightened(codes: &[Code; 81], i: usize, j: usize, c: Code) -> Option<[Code; 81]>
     requires inside { ⌜ i < 9 ⌝ ∗ ⌜ j < 9 ⌝ }
     requires reach { ⌜ ((p : ℕ) → p < 81 → Near 4000000 (code-of (now codes) p)) ⌝ ∗ ⌜ Near 1000001 (c .0) ⌝ }
@@ -67,7 +67,7 @@ pub fn tightened(codes: &[Code; 81], i: usize, j: usize, c: Code) -> Option<[Cod
     Some(next)
 }
 
-// The limit that a code other than none's stands for.
+// The bound that a code other than none's stands for.
 pub fn decoded(code: Code) -> Bound
     requires { ⌜ Near 4000000 (code .0) ⌝ ∗ ⌜ code .0 < 4294967295 ⌝ }
     ensures bound { λ r. ⌜ upto (r .closed) (r .number) ≡ decode (code .0) ⌝ }
@@ -86,10 +86,10 @@ pub fn coded(bound: Bound) -> Code
     ensures near { λ r. ⌜ Near 1000001 (r .0) ⌝ }
     ensures some { λ r. ⌜ r .0 < 4294967295 ⌝ }
 {
-    let place = (bound.number + BIAS as i32) as u32;
+    let half = (bound.number + BIAS as i32) as u32;
     if bound.closed {
-        Code(2 * place + 1)
+        Code(2 * half + 1)
     } else {
-        Code(2 * place)
+        Code(2 * half)
     }
 }

@@ -26,7 +26,7 @@ pub fn named(clocks: &[usize]) -> Option<[bool; 9]>
     Some(on)
 }
 
-// A place after clock k, if it is reset, is cut to 0.
+// The code at p after clock k, if it is reset, is cut to 0.
 fn zero_code(codes: &[Code; 81], k: usize, reset: bool, p: usize) -> Code
     requires { ⌜ Sound (now codes) ⌝ ∗ ⌜ k < 9 ⌝ ∗ ⌜ p < 81 ⌝ }
     ensures { λ r. ⌜ r .0 ≡ cond reset (code-cut (now (codes .entry)) k 0 33554433 p) (code-of (now (codes .entry)) p) ⌝ }
@@ -39,7 +39,7 @@ fn zero_code(codes: &[Code; 81], k: usize, reset: bool, p: usize) -> Code
     tighter_code(codes[p], via)
 }
 
-// The codes after clock k, if it is reset, is cut to 0; none if nothing is left.
+// The zone after clock k, if it is reset, is cut to 0; none if nothing is left.
 fn zero_one(codes: &[Code; 81], k: usize, reset: bool) -> Option<[Code; 81]>
     requires { ⌜ Sound (now codes) ⌝ ∗ ⌜ k < 9 ⌝ }
     ensures { λ r. ⌜ BySome r ((reset ≡ true) × (code-of (now (codes .entry)) k < 33554433)) (λ next. (reset ≡ true → 33554433 ≤ code-of (now (codes .entry)) k) × ((p : ℕ) → p < 81 → code-of next p ≡ cond reset (code-cut (now (codes .entry)) k 0 33554433 p) (code-of (now (codes .entry)) p))) ⌝ }
@@ -54,7 +54,7 @@ fn zero_one(codes: &[Code; 81], k: usize, reset: bool) -> Option<[Code; 81]>
     Some(next)
 }
 
-// The codes after each clock that is reset is cut to 0; none if nothing is left.
+// The zone after each clock that is reset is cut to 0; none if nothing is left.
 pub fn zeroed(codes: &[Code; 81], on: &[bool; 9]) -> Option<[Code; 81]>
     requires { ⌜ Sound (now codes) ⌝ }
     ensures { λ r. ⌜ BySome r (Stuck (λ i. getD (now (on .entry)) i false) (now (codes .entry))) (λ next. Zeroed (λ i. getD (now (on .entry)) i false) (now (codes .entry)) next 9) ⌝ }
@@ -69,7 +69,7 @@ pub fn zeroed(codes: &[Code; 81], on: &[bool; 9]) -> Option<[Code; 81]>
     Some(next)
 }
 
-// A place after the clocks that were reset are let go.
+// The code at p after the clocks that were reset are let go.
 fn free_code(codes: &[Code; 81], on: &[bool; 9], p: usize) -> Code
     requires { ⌜ p < 81 ⌝ }
     ensures { λ r. ⌜ r .0 ≡ code-free (λ i. getD (now (on .entry)) i false) (now (codes .entry)) p ⌝ }
@@ -89,7 +89,7 @@ fn free_code(codes: &[Code; 81], on: &[bool; 9], p: usize) -> Code
     }
 }
 
-// The codes after the clocks that were reset are let go.
+// The zone after the clocks that were reset are let go.
 pub fn freed(codes: &[Code; 81], on: &[bool; 9]) -> [Code; 81]
     ensures { λ r. ⌜ ((p : ℕ) → p < 81 → code-of r p ≡ code-free (λ i. getD (now (on .entry)) i false) (now (codes .entry)) p) ⌝ }
 {

@@ -10,7 +10,7 @@ ghost use Rattle.bounds.specs.Logic.{Iff};
 ghost use Rattle.bounds.specs.Domains.{scales, hand-allows};
 ghost use Rattle.zones.specs.Codes.{Sound, Near, at, decode, code-all, code-of};
 ghost use Rattle.zones.specs.Matrices.{Holds};
-ghost use Rattle.zones.specs.Cuts.{CutSays, OfDomain};
+ghost use Rattle.zones.specs.Cuts.{CodeOf, CutSays, Fit, OfDomain};
 ghost use Rattle.zones.specs.Boxes.{BoxSays};
 ghost use Rattle.zones.specs.Calls.{BackSays, WithinSays, HoldsSays, UndoSays, HasState, AllSays, BoundSays};
 use crate::back::backed;
@@ -26,6 +26,7 @@ use crate::codes::coded;
 use crate::codes::decoded;
 use crate::codes::joined;
 use crate::codes::tightened;
+use crate::order::no_looser;
 use crate::resets::freed;
 use crate::resets::named;
 use crate::resets::zeroed;
@@ -44,7 +45,7 @@ pub struct Zone {
 }
 
 // What is left of a zone: some states, or none.
-#[derive(Clone, Copy)]
+#[derive(Clone, Copy, PartialEq, Eq, Debug)]
 pub enum Cut {
     Kept,
     Empty,
@@ -77,9 +78,9 @@ impl Zone {
     }
 
     // Keeps the states that also meet the bound at (i, j).
-    pub fn cut<K: TimeDomain>(
+    pub fn cut<T: TimeDomain>(
         &mut self,
-        time: &K,
+        time: &T,
         i: usize,
         j: usize,
         bound: Option<Bound>,
@@ -92,7 +93,8 @@ impl Zone {
         }
     }
 
-    fn cut_by_none<K: TimeDomain>(&mut self, time: &K, i: usize, j: usize) -> Result<Cut, Refusal>
+    // The cut by no bound, which changes nothing.
+    fn cut_by_none<T: TimeDomain>(&mut self, time: &T, i: usize, j: usize) -> Result<Cut, Refusal>
         ensures { λ r. ⌜ CutSays (scales (allows (now (time .entry)))) (normal (now (time .entry))) i j none (now (self .entry) .codes) (now (self .exit) .codes) r ⌝ }
     {
         if i > 8 || j > 8 {
@@ -104,9 +106,10 @@ impl Zone {
         Ok(Cut::Kept)
     }
 
-    fn cut_by<K: TimeDomain>(
+    // The cut by a bound.
+    fn cut_by<T: TimeDomain>(
         &mut self,
-        time: &K,
+        time: &T,
         i: usize,
         j: usize,
         bound: Bound,
@@ -124,24 +127,37 @@ impl Zone {
         }
         match time.normal_form(bound) {
             Err(why) => Err(why),
-            Ok(t) => {
-                let c = coded(t);
-                if joined(self.codes[9 * j + i], c).0 < LEVEL.0 {
-                    return Ok(Cut::Empty);
-                }
-                match tightened(&self.codes, i, j, c) {
-                    Some(next) => {
-                        self.codes = next;
-                        Ok(Cut::Kept)
-                    }
-                    None => Err(Refusal::Range),
-                }
-            }
+            Ok(t) => self.tighten(time, i, j, bound, coded(t)),
         }
     }
 
-    // Keeps the states in the box: clock by clock, the lower bound first, until nothing is left or a place is out of range.
-    pub fn cut_box<K: TimeDomain>(&mut self, time: &K, clock_box: &ClockBox) -> Result<Cut, Refusal>
+    // The cut at (i, j) by a bound, given the code of its normal form.
+    fn tighten<T: TimeDomain>(
+        &mut self,
+        time: &T,
+        i: usize,
+        j: usize,
+        bound: Bound,
+        code: Code,
+    ) -> Result<Cut, Refusal>
+        requires fit { ⌜ Fit (normal (now time)) i j (upto (bound .closed) (bound .number)) (now self .codes) ⌝ }
+        requires code { ⌜ CodeOf (normal (now time) (upto (bound .closed) (bound .number))) (code .0) ⌝ }
+        ensures { λ r. ⌜ CutSays (scales (allows (now (time .entry)))) (normal (now (time .entry))) i j (upto (bound .closed) (bound .number)) (now (self .entry) .codes) (now (self .exit) .codes) r ⌝ }
+    {
+        if joined(self.codes[9 * j + i], code).0 < LEVEL.0 {
+            return Ok(Cut::Empty);
+        }
+        match tightened(&self.codes, i, j, code) {
+            Some(next) => {
+                self.codes = next;
+                Ok(Cut::Kept)
+            }
+            None => Err(Refusal::Range),
+        }
+    }
+
+    // Keeps the states in the box: clock by clock, the lower bound first, until nothing is left or a number is out of range.
+    pub fn cut_box<T: TimeDomain>(&mut self, time: &T, clock_box: &ClockBox) -> Result<Cut, Refusal>
         ensures { λ r. ⌜ BoxSays (scales (allows (now (time .entry)))) (normal (now (time .entry))) (now («clock_box» .entry) .sides) (now (self .entry) .codes) (now (self .exit) .codes) r ⌝ }
     {
         if !plain(&clock_box.sides) {
@@ -164,8 +180,8 @@ impl Zone {
         Ok(Cut::Kept)
     }
 
-    // Takes in the states from which some wait of 0 or more leads into the zone.
-    pub fn back<K: TimeDomain>(&mut self, time: &K) -> Result<(), Refusal>
+    // Goes back in time: to the states from which some wait of 0 or more leads into the zone.
+    pub fn back<T: TimeDomain>(&mut self, time: &T) -> Result<(), Refusal>
         ensures { λ r. ⌜ BackSays (scales (allows (now (time .entry)))) (normal (now (time .entry))) (now (self .entry) .codes) (now (self .exit) .codes) r ⌝ }
     {
         if !of_domain(&self.codes, time) {
@@ -176,8 +192,8 @@ impl Zone {
         Ok(())
     }
 
-    // Takes in the states that lie in the zone once the clocks are set to 0.
-    pub fn undo<K: TimeDomain>(&mut self, time: &K, clocks: &[usize]) -> Result<Cut, Refusal>
+    // Goes back over a reset: to the states that lie in the zone once the clocks are set to 0.
+    pub fn undo<T: TimeDomain>(&mut self, time: &T, clocks: &[usize]) -> Result<Cut, Refusal>
         ensures { λ r. ⌜ UndoSays (scales (allows (now (time .entry)))) (normal (now (time .entry))) (now (clocks .entry)) (now (self .entry) .codes) (now (self .exit) .codes) r ⌝ }
     {
         match named(clocks) {
@@ -199,7 +215,7 @@ impl Zone {
     }
 
     // Whether the zone holds the state.
-    pub fn holds<K: TimeDomain>(&self, time: &K, state: &State) -> Result<bool, Refusal>
+    pub fn holds<T: TimeDomain>(&self, time: &T, state: &State) -> Result<bool, Refusal>
         ensures { λ r. ⌜ HoldsSays (allows (now (time .entry))) (normal (now (time .entry))) (now (state .entry) .scale) (now (now (state .entry) .readings)) (now (self .entry) .codes) r ⌝ }
     {
         if !of_domain(&self.codes, time) {
@@ -211,7 +227,7 @@ impl Zone {
 
     // Whether the zone is of the time domain: every bound of it is in normal form.
     // One that is holds a state at a scale that the domain allows, and every zone holds one at some scale.
-    pub fn is_of<K: TimeDomain>(&self, time: &K) -> bool
+    pub fn is_of<T: TimeDomain>(&self, time: &T) -> bool
         ensures is { λ r. ⌜ Iff (r ≡ true) (OfDomain (normal (now (time .entry))) (now (self .entry) .codes)) ⌝ }
         ensures state { λ r. ⌜ (r ≡ true → HasState (scales (allows (now (time .entry)))) (now (self .entry) .codes)) ⌝ }
         ensures some { λ r. ⌜ HasState (scales hand-allows) (now (self .entry) .codes) ⌝ }
@@ -220,7 +236,7 @@ impl Zone {
     }
 
     // Whether every state of this zone lies in the other.
-    pub fn within<K: TimeDomain>(&self, other: &Zone, time: &K) -> Result<bool, Refusal>
+    pub fn within<T: TimeDomain>(&self, other: &Zone, time: &T) -> Result<bool, Refusal>
         ensures { λ r. ⌜ WithinSays (scales (allows (now (time .entry)))) (normal (now (time .entry))) (now (self .entry) .codes) (now (other .entry) .codes) r ⌝ }
     {
         if !of_domain(&self.codes, time) {
@@ -233,27 +249,15 @@ impl Zone {
     }
 }
 
-// The code at a place of the zone of every state.
+// The code at p of the zone of every state.
 fn open_code(p: usize) -> Code
     ensures { λ r. ⌜ r .0 ≡ code-all p ⌝ }
 {
     if p < 9 || p % 10 == 0 { LEVEL } else { NONE }
 }
 
-// Whether each place is as tight as the other's, or tighter.
-fn no_looser(a: &[Code; 81], b: &[Code; 81]) -> bool
-    ensures { λ r. ⌜ (r ≡ true → (p : ℕ) → p < 81 → code-of (now (a .entry)) p ≤ code-of (now (b .entry)) p) × (r ≡ false → (p : ℕ) × (p < 81) × (code-of (now (b .entry)) p < code-of (now (a .entry)) p)) ⌝ }
-{
-    for p in 0..81 {
-        if a[p].0 > b[p].0 {
-            return false;
-        }
-    }
-    true
-}
-
-// Whether the time takes the bound of the code in as it is.
-fn normal_code<K: TimeDomain>(code: Code, time: &K) -> bool
+// Whether the bound of the code is in normal form.
+fn normal_code<T: TimeDomain>(code: Code, time: &T) -> bool
     requires { ⌜ Near 4000000 (code .0) ⌝ }
     ensures { λ r. ⌜ (r ≡ true → normal (now (time .entry)) (decode (code .0)) ≡ decode (code .0)) × (normal (now (time .entry)) (decode (code .0)) ≡ decode (code .0) → r ≡ true) ⌝ }
 {
@@ -272,15 +276,15 @@ fn normal_code<K: TimeDomain>(code: Code, time: &K) -> bool
     }
 }
 
-// Whether the time takes every place in as it is.
-fn of_domain<K: TimeDomain>(codes: &[Code; 81], time: &K) -> bool
+// Whether every bound is in normal form.
+fn of_domain<T: TimeDomain>(codes: &[Code; 81], time: &T) -> bool
     requires { ⌜ Sound (now codes) ⌝ }
     ensures { λ r. ⌜ (r ≡ true → OfDomain (normal (now (time .entry))) (now (codes .entry))) × (OfDomain (normal (now (time .entry))) (now (codes .entry)) → r ≡ true) ⌝ }
 {
+    // No early return: the loop then runs several codes at a time.
+    let mut every = true;
     for p in 0..81 {
-        if !normal_code(codes[p], time) {
-            return false;
-        }
+        every = every & normal_code(codes[p], time);
     }
-    true
+    every
 }

@@ -1,13 +1,12 @@
 use borrow.Author.Needs.{needs}
 use mathlib.Core.Path.{_≡_, refl, ap}
-use mathlib.Core.Bool.{true}
-use Prim.Native.Nat.{ℕ, _≤_, _<_}
+use Prim.Native.Nat.{ℕ}
 use native.Mathlib.Decide.{decLt}
 use native.Mathlib.Omega.{arith}
 use lib.ListN.{length}
 use Rattle.std.proofs.shelf.Lists.{getD-past}
 use Rattle.zones.specs.declared.boxes.ClockBox.{ClockBox}
-use Rattle.plans.specs.Boxes.{blank, side, BoxOf}
+use Rattle.plans.specs.Boxes.{blank, BoxOf}
 use Rattle.zones.specs.Boxes.{no-side}
 use Rattle.plans.specs.BoxChecks.{Numbers, Free}
 use Rattle.plans.proofs.box_check.check_box.Needs as need

@@ -2,7 +2,7 @@ use mathlib.Core.Path.{sym, ap, _∙_}
 use native.Mathlib.Omega.{arith}
 use borrow.Author.Differences.{ints}
 use Rattle.bounds.specs.Bounds.{upto}
-use Rattle.zones.proofs.CodeLims.{code-closed, code-open}
+use Rattle.zones.proofs.Decoding.{code-closed, code-open}
 use Rattle.zones.proofs.codes.coded.Needs as need
 
 pub returns-then-bound : need.returns-then-bound

@@ -2,7 +2,7 @@ use mathlib.Core.Path.{sym, ap, _∙_}
 use native.Mathlib.Omega.{arith}
 use borrow.Author.Differences.{ints}
 use Rattle.bounds.specs.Bounds.{upto}
-use Rattle.zones.proofs.CodeLims.{lim-at}
+use Rattle.zones.proofs.Decoding.{lim-at}
 use Rattle.zones.proofs.codes.decoded.Needs as need
 
 pub returns : need.returns

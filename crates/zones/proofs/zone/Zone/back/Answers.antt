@@ -14,7 +14,7 @@ ghost-self g c =
 pub returns : need.returns
 returns g c =
     let k = c .args .time .now in
-    let t = g .K·TimeDomain in
+    let t = g .T·TimeDomain in
     let laws = scale-laws (t .allows k) (t .normal k) (t .lawful k) in
     let xs = c .args .self .now .codes in
     let s = sound xs (c .args .self .now .ok) in

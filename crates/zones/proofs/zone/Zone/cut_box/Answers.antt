@@ -18,14 +18,14 @@ loop-s-holds g c = box-start _ _ _ _ (c .of-domain .ensures .0 (c .if-not-of-dom
 
 pub loop-s-again : need.loop-s-again
 loop-s-again g c =
-    let t = g .K·TimeDomain in
+    let t = g .T·TimeDomain in
     let k = c .args .time .now in
     box-more (scales (t .allows k)) (t .normal k) (c .args .clock-box .now .sides) (c .args .self .now .codes) (c .loop-s .next .codes) (c .loop-s .s) (c .loop-s-test .taken) (c .loop-s .inv) (c .cut .last .self .codes)
     (cut-says (scales (t .allows k)) (t .normal k) (c .loop-s .next .codes) (c .cut .last .self .codes) _ _ _ _ _ _ _ _ (c .row .ensures) (c .column .ensures) (c .step-bound .ensures) (ap Ok (c .in-Kept .is)) (c .in-Ok .ensures tt))
 
 pub returns-in-Err : need.returns-in-Err
 returns-in-Err g c =
-    let t = g .K·TimeDomain in
+    let t = g .T·TimeDomain in
     let k = c .args .time .now in
     box-refused (scales (t .allows k)) (t .normal k) (c .args .clock-box .now .sides) (c .args .self .now .codes) (c .loop-s .next .codes) (c .loop-s .s) (c .loop-s-test .taken) (c .loop-s .inv) (c .cut .last .self .codes)
     (c .in-Err .why) (c .plain .ensures .0 (c .if-not-plain .left)) (c .of-domain .ensures .0 (c .if-not-of-domain .left))
@@ -33,7 +33,7 @@ returns-in-Err g c =
 
 pub returns-in-Empty : need.returns-in-Empty
 returns-in-Empty g c =
-    let t = g .K·TimeDomain in
+    let t = g .T·TimeDomain in
     let k = c .args .time .now in
     box-empty (scales (t .allows k)) (t .normal k) (c .args .clock-box .now .sides) (c .args .self .now .codes) (c .loop-s .next .codes) (c .loop-s .s) (c .loop-s-test .taken) (c .loop-s .inv) (c .cut .last .self .codes)
     (c .plain .ensures .0 (c .if-not-plain .left)) (c .of-domain .ensures .0 (c .if-not-of-domain .left))
@@ -41,7 +41,7 @@ returns-in-Empty g c =
 
 pub returns : need.returns
 returns g c =
-    let t = g .K·TimeDomain in
+    let t = g .T·TimeDomain in
     let k = c .args .time .now in
     let e : c .loop-s .s ≡ 16 = omega arith in
     box-done (scales (t .allows k)) (t .normal k) (c .args .clock-box .now .sides) (c .args .self .now .codes) (c .loop-s .next .codes)

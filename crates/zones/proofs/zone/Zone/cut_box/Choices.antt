@@ -3,4 +3,4 @@ use Rattle.zones.specs.Boxes.{Boxed}
 use Rattle.zones.proofs.zone.Zone.cut_box.Given as given
 
 abbrev pub Inv-loop-s : given.InvT-loop-s
-Inv-loop-s g l = Boxed (scales (g .K·TimeDomain .allows (l .time))) (g .K·TimeDomain .normal (l .time)) (l .clock-box .sides) (l .self .codes) (l .next .codes) (l .s)
+Inv-loop-s g l = Boxed (scales (g .T·TimeDomain .allows (l .time))) (g .T·TimeDomain .normal (l .time)) (l .clock-box .sides) (l .self .codes) (l .next .codes) (l .s)

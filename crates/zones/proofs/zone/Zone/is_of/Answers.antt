@@ -15,7 +15,7 @@ of-domain-requires g c κs = sound _ (c .args .self .now .ok)
 pub returns : need.returns
 returns g c =
     let k = c .args .time .now in
-    let t = g .K·TimeDomain in
+    let t = g .T·TimeDomain in
     let xs = c .args .self .now .codes in
     let s = sound xs (c .args .self .now .ok) in
     record {

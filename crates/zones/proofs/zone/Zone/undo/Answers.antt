@@ -27,7 +27,7 @@ ghost-self g c =
 pub returns-in-None-zeroed : need.returns-in-None-zeroed
 returns-in-None-zeroed g c =
     let k = c .args .time .now in
-    let t = g .K·TimeDomain in
+    let t = g .T·TimeDomain in
     let laws = scale-laws (t .allows k) (t .normal k) (t .lawful k) in
     let xs = c .args .self .now .codes in
     let s = sound xs (c .args .self .now .ok) in
@@ -45,7 +45,7 @@ returns-in-None-zeroed g c =
 pub returns-in-Some-zeroed : need.returns-in-Some-zeroed
 returns-in-Some-zeroed g c =
     let k = c .args .time .now in
-    let t = g .K·TimeDomain in
+    let t = g .T·TimeDomain in
     let laws = scale-laws (t .allows k) (t .normal k) (t .lawful k) in
     let xs = c .args .self .now .codes in
     let s = sound xs (c .args .self .now .ok) in

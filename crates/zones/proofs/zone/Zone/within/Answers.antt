@@ -16,7 +16,7 @@ of-domain-requires-2 g c κs = sound _ (c .args .other .now .ok)
 pub returns : need.returns
 returns g c =
     let k = c .args .time .now in
-    let t = g .K·TimeDomain in
+    let t = g .T·TimeDomain in
     let laws = scale-laws (t .allows k) (t .normal k) (t .lawful k) in
     let xs = c .args .self .now .codes in
     let s = sound xs (c .args .self .now .ok) in
@@ -26,6 +26,8 @@ returns g c =
     let keeps2 = c .of-domain-2 .ensures .0 (c .if-not-of-domain-2 .left) in (
       keeps,
       keeps2,
-      (λ e. within-yes laws xs ys s near keeps (c .no-looser .ensures .0 e),
-      λ f. ⊎-elim {C = c .no-looser .result ≡ true} (λ e. e) (λ e. let p = c .no-looser .ensures .1 e in absurd (within-no laws xs ys s near keeps (p .0) (p .1) (p .2) f)) (cases-bool (c .no-looser .result))),
+      (
+        λ e. within-yes laws xs ys s near keeps (c .no-looser .ensures .0 e),
+        λ f. ⊎-elim {C = c .no-looser .result ≡ true} (λ e. e) (λ e. let p = c .no-looser .ensures .1 e in absurd (within-no laws xs ys s near keeps (p .0) (p .1) (p .2) f)) (cases-bool (c .no-looser .result)),
+      ),
     )

@@ -1,0 +1,5 @@
+pub mod Timed
+pub mod Under
+pub mod Narrowed
+pub mod Steps
+pub mod Mixed

@@ -1,0 +1,5 @@
+pub mod Deadlines
+pub mod Narrowing
+pub mod Restrictions
+pub mod LayersSound
+pub mod Theorems

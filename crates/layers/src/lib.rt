@@ -1,0 +1,4 @@
+pub mod deadline;
+mod narrowing;
+pub mod refused;
+pub mod restriction;
