@@ -30,12 +30,12 @@ given k xs h = taken-puts (emptied k) xs (omega arith)
 
 pub gives : (t : Tables) (w : PlanText) → Supplied t w → Gives w (head (filled t w)) (filled t w .rows)
 gives t w s = record {
-    header = refl;
-    positions = given (t .positions) (map position-row (w .positions)) (omega (arith, length-map position-row (w .positions), s .positions));
-    moves = given (t .moves) (map move-row (w .moves)) (omega (arith, length-map move-row (w .moves), s .moves));
-    outcomes = given (t .outcomes) (outcome-rows 1 (w .moves)) (omega (arith, count-rows 1 (w .moves), s .outcomes));
-    goals = given (t .goals) (map goal-row (w .goals)) (omega (arith, length-map goal-row (w .goals), s .goals));
-  }
+  header = refl;
+  positions = given (t .positions) (map position-row (w .positions)) (omega (arith, length-map position-row (w .positions), s .positions));
+  moves = given (t .moves) (map move-row (w .moves)) (omega (arith, length-map move-row (w .moves), s .moves));
+  outcomes = given (t .outcomes) (outcome-rows 1 (w .moves)) (omega (arith, count-rows 1 (w .moves), s .outcomes));
+  goals = given (t .goals) (map goal-row (w .goals)) (omega (arith, length-map goal-row (w .goals), s .goals));
+}
 
 -- a text that writes down a plan that there are rows for is accepted
 pub read-all : (text : List ℕ) (t : Tables) (w : PlanText) → Writes text w → Supplied t w → read-text text t ≡ accepted (filled t w)
@@ -64,25 +64,25 @@ keeps-to text t (Ok h) r e =
 keeps-to text t (Err f) r e = λ w.
     let all = e ∙ read-all text t (w .plan) (w .writes) (w .supplied) in
     never (ap (λ (z : Ending). z .answer) all) where
-  never : {h : Header} → _≡_ {A = Result Header Fault} (Err f) (Ok h) → ⊥
-  never q = let z : _≡_ {A = ℕ} 0 1 = cc in omega arith
+      never : {h : Header} → _≡_ {A = Result Header Fault} (Err f) (Ok h) → ⊥
+      never q = let z : _≡_ {A = ℕ} 0 1 = cc in omega arith
 
 -- rows for any plan
 abbrev wide : Tables
 wide = record {
-    positions = record { rows = replicate 64 no-position; used = 0 };
-    moves = record { rows = replicate 256 no-move; used = 0 };
-    outcomes = record { rows = replicate 512 no-outcome; used = 0 };
-    goals = record { rows = replicate 64 no-goal; used = 0 };
-  }
+  positions = record { rows = replicate 64 no-position; used = 0 };
+  moves = record { rows = replicate 256 no-move; used = 0 };
+  outcomes = record { rows = replicate 512 no-outcome; used = 0 };
+  goals = record { rows = replicate 64 no-goal; used = 0 };
+}
 
 wide-supplied : (w : PlanText) → FinePlan w → Supplied wide w
 wide-supplied w f = record {
-    positions = omega (arith, f .count .high, length-replicate 64 no-position);
-    moves = omega (arith, f .few-moves, length-replicate 256 no-move);
-    outcomes = omega (arith, f .few-outcomes, length-replicate 512 no-outcome);
-    goals = omega (arith, f .few-goals, length-replicate 64 no-goal);
-  }
+  positions = omega (arith, f .count .high, length-replicate 64 no-position);
+  moves = omega (arith, f .few-moves, length-replicate 256 no-move);
+  outcomes = omega (arith, f .few-outcomes, length-replicate 512 no-outcome);
+  goals = omega (arith, f .few-goals, length-replicate 64 no-goal);
+}
 
 pub one-plan : OnePlan
 one-plan text w w′ a b =

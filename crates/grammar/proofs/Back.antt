@@ -111,9 +111,9 @@ module _ (s : State) (line at : ℕ) (sound : Sound s) where
       let a : Place = record { bytes = spell-box ms; at = at + 2 } in
       ap (step-by s line p) (one-field 80 at (spell-box ms) refl d)
       ∙ on-to (settled s) _ tt _ (settled-ok s (h .chances refl))
-        (on-to (demanded (stands-at letters.Position (s .phase) (s .rows .positions .used)) Order line p) _ tt _ (demanded-ok _ Order line p (h .order))
-        (on-to (box-field (s .clocks) line 2 a) _ (bounds (box-by ms) a) _ (box-back (s .clocks) line 2 (at + 2) ms (sound .counted) (h .range))
-        (on-to (demanded (has-room 64 (s .rows .positions)) Rows line p) _ tt _ (demanded-ok _ Rows line p (h .room)) refl)))
+      (on-to (demanded (stands-at letters.Position (s .phase) (s .rows .positions .used)) Order line p) _ tt _ (demanded-ok _ Order line p (h .order))
+      (on-to (box-field (s .clocks) line 2 a) _ (bounds (box-by ms) a) _ (box-back (s .clocks) line 2 (at + 2) ms (sound .counted) (h .range))
+      (on-to (demanded (has-room 64 (s .rows .positions)) Rows line p) _ tt _ (demanded-ok _ Rows line p (h .room)) refl)))
 
   move-back : (v : ℕ) (ms : List BoundText) → Stands (bare s) (move v ms) → stepped s line (record { bytes = spell (move v ms); at = at }) ≡ Ok (next s line (record { bytes = spell (move v ms); at = at }) (move v ms))
   move-back v ms h =
@@ -125,10 +125,10 @@ module _ (s : State) (line at : ℕ) (sound : Sound s) where
       let b : Place = record { bytes = spell-box ms; at = at + 2 + suc (length (decimal v)) } in
       ap (step-by s line p) (two-fields 77 at (decimal v) (spell-box ms) refl d e)
       ∙ on-to (settled s) _ tt _ (settled-ok s (h .chances refl))
-        (on-to (demanded (stands-at letters.Move (s .phase) (s .rows .positions .used)) Order line p) _ tt _ (demanded-ok _ Order line p (h .order))
-        (on-to (number-field 1 (s .rows .positions .used) Name line 2 a) _ (number v a) _ (field-back 1 (s .rows .positions .used) Name line 2 (at + 2) v few (range .0 .low) (range .0 .high))
-        (on-to (box-field (s .clocks) line 3 b) _ (bounds (box-by ms) b) _ (box-back (s .clocks) line 3 (at + 2 + suc (length (decimal v))) ms (sound .counted) (range .1))
-        (on-to (demanded (has-room 256 (s .rows .moves)) Rows line p) _ tt _ (demanded-ok _ Rows line p (h .room)) refl))))
+      (on-to (demanded (stands-at letters.Move (s .phase) (s .rows .positions .used)) Order line p) _ tt _ (demanded-ok _ Order line p (h .order))
+      (on-to (number-field 1 (s .rows .positions .used) Name line 2 a) _ (number v a) _ (field-back 1 (s .rows .positions .used) Name line 2 (at + 2) v few (range .0 .low) (range .0 .high))
+      (on-to (box-field (s .clocks) line 3 b) _ (bounds (box-by ms) b) _ (box-back (s .clocks) line 3 (at + 2 + suc (length (decimal v))) ms (sound .counted) (range .1))
+      (on-to (demanded (has-room 256 (s .rows .moves)) Rows line p) _ tt _ (demanded-ok _ Rows line p (h .room)) refl))))
 
   goal-back : (g : GoalText) → Stands (bare s) (goal g) → stepped s line (record { bytes = spell (goal g); at = at }) ≡ Ok (next s line (record { bytes = spell (goal g); at = at }) (goal g))
   goal-back g h =
@@ -140,10 +140,10 @@ module _ (s : State) (line at : ℕ) (sound : Sound s) where
       let b : Place = record { bytes = spell-box (g .area); at = at + 2 + suc (length (decimal (g .position))) } in
       ap (step-by s line p) (two-fields 71 at (decimal (g .position)) (spell-box (g .area)) refl d e)
       ∙ on-to (settled s) _ tt _ (settled-ok s (h .chances refl))
-        (on-to (demanded (stands-at letters.Goal (s .phase) (s .rows .positions .used)) Order line p) _ tt _ (demanded-ok _ Order line p (h .order))
-        (on-to (number-field 1 (s .rows .positions .used) Name line 2 a) _ (number (g .position) a) _ (field-back 1 (s .rows .positions .used) Name line 2 (at + 2) (g .position) few (range .position .low) (range .position .high))
-        (on-to (box-field (s .clocks) line 3 b) _ (bounds (box-by (g .area)) b) _ (box-back (s .clocks) line 3 (at + 2 + suc (length (decimal (g .position)))) (g .area) (sound .counted) (range .area))
-        (on-to (demanded (has-room 64 (s .rows .goals)) Rows line p) _ tt _ (demanded-ok _ Rows line p (h .room)) refl))))
+      (on-to (demanded (stands-at letters.Goal (s .phase) (s .rows .positions .used)) Order line p) _ tt _ (demanded-ok _ Order line p (h .order))
+      (on-to (number-field 1 (s .rows .positions .used) Name line 2 a) _ (number (g .position) a) _ (field-back 1 (s .rows .positions .used) Name line 2 (at + 2) (g .position) few (range .position .low) (range .position .high))
+      (on-to (box-field (s .clocks) line 3 b) _ (bounds (box-by (g .area)) b) _ (box-back (s .clocks) line 3 (at + 2 + suc (length (decimal (g .position)))) (g .area) (sound .counted) (range .area))
+      (on-to (demanded (has-room 64 (s .rows .goals)) Rows line p) _ tt _ (demanded-ok _ Rows line p (h .room)) refl))))
 
   outcome-back : (o : OutcomeText) → Stands (bare s) (outcome o) → stepped s line (record { bytes = spell (outcome o); at = at }) ≡ Ok (next s line (record { bytes = spell (outcome o); at = at }) (outcome o))
   outcome-back o h =
@@ -157,10 +157,10 @@ module _ (s : State) (line at : ℕ) (sound : Sound s) where
       let c : Place = record { bytes = spell-clocks (o .clocks); at = at + 2 + suc (length (decimal (o .chance))) + suc (length (decimal (o .target))) } in
       ap (step-by s line p) (three-fields 79 at (decimal (o .chance)) (decimal (o .target)) (spell-clocks (o .clocks)) refl d e f)
       ∙ (on-to (demanded (stands-at letters.Outcome (s .phase) (s .rows .positions .used)) Order line p) _ tt _ (demanded-ok _ Order line p (h .order))
-        (on-to (number-field 0 1000 Number line 2 a) _ (number (o .chance) a) _ (field-back 0 1000 Number line 2 (at + 2) (o .chance) (lit< tt) (omega arith) (range .chance))
-        (on-to (number-field 1 (s .rows .positions .used) Name line 3 b) _ (number (o .target) b) _ (field-back 1 (s .rows .positions .used) Name line 3 (at + 2 + suc (length (decimal (o .chance)))) (o .target) few (range .target .low) (range .target .high))
-        (on-to (clocks-field (s .clocks) line 4 c) _ (clocks (resets-by (o .clocks)) c) _ (clocks-back (s .clocks) line 4 (at + 2 + suc (length (decimal (o .chance))) + suc (length (decimal (o .target)))) (o .clocks) (sound .counted) (range .clocks))
-        (on-to (demanded (has-room 512 (s .rows .outcomes)) Rows line p) _ tt _ (demanded-ok _ Rows line p (h .room)) refl)))))
+      (on-to (number-field 0 1000 Number line 2 a) _ (number (o .chance) a) _ (field-back 0 1000 Number line 2 (at + 2) (o .chance) (lit< tt) (omega arith) (range .chance))
+      (on-to (number-field 1 (s .rows .positions .used) Name line 3 b) _ (number (o .target) b) _ (field-back 1 (s .rows .positions .used) Name line 3 (at + 2 + suc (length (decimal (o .chance)))) (o .target) few (range .target .low) (range .target .high))
+      (on-to (clocks-field (s .clocks) line 4 c) _ (clocks (resets-by (o .clocks)) c) _ (clocks-back (s .clocks) line 4 (at + 2 + suc (length (decimal (o .chance))) + suc (length (decimal (o .target)))) (o .clocks) (sound .counted) (range .clocks))
+      (on-to (demanded (has-room 512 (s .rows .outcomes)) Rows line p) _ tt _ (demanded-ok _ Rows line p (h .room)) refl)))))
 
   time-back : (k : PlanTime) (n : ℕ) → Stands (bare s) (time k n) → stepped s line (record { bytes = spell (time k n); at = at }) ≡ Ok (next s line (record { bytes = spell (time k n); at = at }) (time k n))
   time-back Hand n h =
@@ -170,8 +170,8 @@ module _ (s : State) (line at : ℕ) (sound : Sound s) where
       let b : Place = record { bytes = decimal n; at = at + 2 + 5 } in
       ap (step-by s line p) (two-fields 84 at (kind Hand) (decimal n) refl refl e)
       ∙ on-to (settled s) _ tt _ (settled-ok s (h .chances refl))
-        (on-to (demanded (stands-at letters.Time (s .phase) (s .rows .positions .used)) Order line p) _ tt _ (demanded-ok _ Order line p (h .order))
-        (on-to (number-field 1 8 Number line 3 b) _ (number n b) _ (field-back 1 8 Number line 3 (at + 2 + 5) n (lit< tt) (range .low) (range .high)) refl))
+      (on-to (demanded (stands-at letters.Time (s .phase) (s .rows .positions .used)) Order line p) _ tt _ (demanded-ok _ Order line p (h .order))
+      (on-to (number-field 1 8 Number line 3 b) _ (number n b) _ (field-back 1 8 Number line 3 (at + 2 + 5) n (lit< tt) (range .low) (range .high)) refl))
   time-back Cycle n h =
       let p : Place = record { bytes = spell (time Cycle n); at = at } in
       let range = h .range in
@@ -179,8 +179,8 @@ module _ (s : State) (line at : ℕ) (sound : Sound s) where
       let b : Place = record { bytes = decimal n; at = at + 2 + 6 } in
       ap (step-by s line p) (two-fields 84 at (kind Cycle) (decimal n) refl refl e)
       ∙ on-to (settled s) _ tt _ (settled-ok s (h .chances refl))
-        (on-to (demanded (stands-at letters.Time (s .phase) (s .rows .positions .used)) Order line p) _ tt _ (demanded-ok _ Order line p (h .order))
-        (on-to (number-field 1 8 Number line 3 b) _ (number n b) _ (field-back 1 8 Number line 3 (at + 2 + 6) n (lit< tt) (range .low) (range .high)) refl))
+      (on-to (demanded (stands-at letters.Time (s .phase) (s .rows .positions .used)) Order line p) _ tt _ (demanded-ok _ Order line p (h .order))
+      (on-to (number-field 1 8 Number line 3 b) _ (number n b) _ (field-back 1 8 Number line 3 (at + 2 + 6) n (lit< tt) (range .low) (range .high)) refl))
 
   -- a line that says i, where i may stand, is accepted as i
   pub item-back : (i : LineText) → Stands (bare s) i → stepped s line (record { bytes = spell i; at = at }) ≡ Ok (next s line (record { bytes = spell i; at = at }) i)

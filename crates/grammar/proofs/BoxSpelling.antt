@@ -138,8 +138,8 @@ cut-at : (bs : List ℕ) → up-to-sign bs < length bs → Cut (up-to-sign bs) b
 cut-at [] h = absurd (omega arith)
 cut-at (b ∷ bs) h =
     elim (eqb b 60 || eqb b 62) as (λ t. t ≡ (eqb b 60 || eqb b 62) → cond t 0 (suc (up-to-sign bs)) < suc (length bs) → Cut (cond t 0 (suc (up-to-sign bs))) (b ∷ bs)) [
-      true ↦ λ e _. record { whole = refl; sign = sym e }
-    | false ↦ λ e lt. let r = cut-at bs (omega arith) in record { whole = ap (λ l. b ∷ l) (r .whole); sign = r .sign }
+      | true ↦ λ e _. record { whole = refl; sign = sym e }
+      | false ↦ λ e lt. let r = cut-at bs (omega arith) in record { whole = ap (λ l. b ∷ l) (r .whole); sign = r .sign }
     ] refl h
 
 -- a bound that was read, from its parts
@@ -148,9 +148,9 @@ with-there u s None ov m e = absurd (let z : _≡_ {A = ℕ} 0 1 = cc in omega a
 with-there u s (Some c) None m e = absurd (let z : _≡_ {A = ℕ} 0 1 = cc in omega arith)
 with-there u s (Some c) (Some v) m e =
     elim (leb v 1000000) as (λ t. (t ≡ true → v ≤ 1000000) → Some m ≡ cond t (Some (record { clock = c; upper = u; bound = record { number = pos v; closed = s } })) None → (w : ℕ) × (Some (m .clock) ≡ Some c) × (Some w ≡ Some v) × (w ≤ 1000000) × (m ≡ held (record { clock = m .clock; upper = u; closed = s; number = w }))) [
-      true ↦ λ h k. let is : m ≡ record { clock = c; upper = u; bound = record { number = pos v; closed = s } } = cc in
-        (v, ap (λ (x : ClockBound). Some (x .clock)) is, refl, h refl, is ∙ ap (λ (x : ℕ). held (record { clock = x; upper = u; closed = s; number = v })) (sym (ap (λ (x : ClockBound). x .clock) is)))
-    | false ↦ λ h k. absurd (let z : _≡_ {A = ℕ} 0 1 = cc in omega arith)
+      | true ↦ λ h k. let is : m ≡ record { clock = c; upper = u; bound = record { number = pos v; closed = s } } = cc in
+          (v, ap (λ (x : ClockBound). Some (x .clock)) is, refl, h refl, is ∙ ap (λ (x : ℕ). held (record { clock = x; upper = u; closed = s; number = v })) (sym (ap (λ (x : ClockBound). x .clock) is)))
+      | false ↦ λ h k. absurd (let z : _≡_ {A = ℕ} 0 1 = cc in omega arith)
     ] (leb-true v 1000000) e
 
 record Spelt (m : ClockBound) (u s : Bool) (clock number : List ℕ) : Type 0 where
@@ -167,7 +167,8 @@ mark-there u s clock number m low e =
       value = r .0;
       clock-is = number-there 9 (m .clock) clock (lit< tt) (omega arith) (r .1);
       number-is = number-there 1000001 (r .0) number (lit< tt) (omega (arith, r .3)) (r .2);
-      small = r .3; is = r .4;
+      small = r .3;
+      is = r .4;
     }
 
 side-there : (x : ℕ) → (eqb x 60 || eqb x 62) ≡ true → x ≡ sign (eqb x 60)
@@ -189,10 +190,10 @@ record After (u : Bool) (clock rest : List ℕ) (m : ClockBound) : Type 0 where
 after-there : (u : Bool) (clock rest : List ℕ) (m : ClockBound) → m .clock ≤ 8 → Some m ≡ bound-after u clock rest → After u clock rest m
 after-there u clock rest m low e =
     elim (eqb (getD rest 0 0) 61) as (λ t. (t ≡ true → getD rest 0 0 ≡ 61) → Some m ≡ cond t (bound-with u true clock (drop 1 rest)) (bound-with u false clock rest) → After u clock rest m) [
-      true ↦ λ is k. let r = mark-there u true clock (drop 1 rest) m low k in
-        record { written = record { clock = m .clock; upper = u; closed = true; number = r .value }; upper = refl; clock-is = r .clock-is; rest-is = equal-first rest (is refl) ∙ ap (λ l. 61 ∷ l) (r .number-is); small = r .small; is = r .is }
-    | false ↦ λ _ k. let r = mark-there u false clock rest m low k in
-        record { written = record { clock = m .clock; upper = u; closed = false; number = r .value }; upper = refl; clock-is = r .clock-is; rest-is = r .number-is; small = r .small; is = r .is }
+      | true ↦ λ is k. let r = mark-there u true clock (drop 1 rest) m low k in
+          record { written = record { clock = m .clock; upper = u; closed = true; number = r .value }; upper = refl; clock-is = r .clock-is; rest-is = equal-first rest (is refl) ∙ ap (λ l. 61 ∷ l) (r .number-is); small = r .small; is = r .is }
+      | false ↦ λ _ k. let r = mark-there u false clock rest m low k in
+          record { written = record { clock = m .clock; upper = u; closed = false; number = r .value }; upper = refl; clock-is = r .clock-is; rest-is = r .number-is; small = r .small; is = r .is }
     ] (eqb-true (getD rest 0 0) 61) e
 
 -- a bound that was read, as it is written
@@ -205,13 +206,13 @@ record Bounded (bs : List ℕ) (m : ClockBound) : Type 0 where
 limit-there : (bs : List ℕ) (m : ClockBound) → m .clock ≤ 8 → Some m ≡ bound-in bs → Bounded bs m
 limit-there bs m low e =
     elim (ltb (up-to-sign bs) (length bs)) as (λ t. (t ≡ true → up-to-sign bs < length bs) → Some m ≡ cond t (bound-after (eqb (getD bs (up-to-sign bs) 0) 60) (take (up-to-sign bs) bs) (drop (up-to-sign bs + 1) bs)) None → Bounded bs m) [
-      true ↦ λ h k.
-        let cut = cut-at bs (h refl) in
-        let r = after-there (eqb (getD bs (up-to-sign bs) 0) 60) (take (up-to-sign bs) bs) (drop (up-to-sign bs + 1) bs) m low k in
-        let one : suc (up-to-sign bs) ≡ up-to-sign bs + 1 = omega arith in
-        let x : getD bs (up-to-sign bs) 0 ≡ sign (r .written .upper) = side-there (getD bs (up-to-sign bs) 0) (cut .sign) ∙ ap sign (sym (r .upper)) in
-        record { written = r .written; spelt = cut .whole ∙ (λ i. r .clock-is i ++ (x i ∷ (ap (λ (j : ℕ). drop j bs) one ∙ r .rest-is) i)); small = r .small; is = r .is }
-    | false ↦ λ _ k. absurd (let z : _≡_ {A = ℕ} 0 1 = cc in omega arith)
+      | true ↦ λ h k.
+          let cut = cut-at bs (h refl) in
+          let r = after-there (eqb (getD bs (up-to-sign bs) 0) 60) (take (up-to-sign bs) bs) (drop (up-to-sign bs + 1) bs) m low k in
+          let one : suc (up-to-sign bs) ≡ up-to-sign bs + 1 = omega arith in
+          let x : getD bs (up-to-sign bs) 0 ≡ sign (r .written .upper) = side-there (getD bs (up-to-sign bs) 0) (cut .sign) ∙ ap sign (sym (r .upper)) in
+          record { written = r .written; spelt = cut .whole ∙ (λ i. r .clock-is i ++ (x i ∷ (ap (λ (j : ℕ). drop j bs) one ∙ r .rest-is) i)); small = r .small; is = r .is }
+      | false ↦ λ _ k. absurd (let z : _≡_ {A = ℕ} 0 1 = cc in omega arith)
     ] (ltb-true (up-to-sign bs) (length bs)) e
 
 with-never : (n : ℕ) (b b′ : List Side) (o : Option ClockBound) (go : Bool → List Side → Result (List Side) Refusal) → ((c : List Side) → Ok b′ ≡ go false c → ⊥) → Ok b′ ≡ box-with n false b o go → ⊥
@@ -235,14 +236,14 @@ first-with : (n : ℕ) (b b′ : List Side) (p : Place) (ps : List Place) (o : O
 first-with n b b′ p ps None few is e = absurd (let z : _≡_ {A = ℕ} 0 1 = cc in omega arith)
 first-with n b b′ p ps (Some m) few is e =
     elim (leb 1 (m .clock) && leb (m .clock) n) as (λ t. (t ≡ true → (leb 1 (m .clock) && leb (m .clock) n) ≡ true) → Ok b′ ≡ cond t (box-from n true (tightened b m) ps) (box-from n false b ps) → First n b b′ p ps) [
-      true ↦ λ h k.
-        let q = and-parts (leb 1 (m .clock)) (leb (m .clock) n) (h refl) in
-        let low = leb-true 1 (m .clock) (q .0) in
-        let high = leb-true (m .clock) n (q .1) in
-        let r = limit-there (p .bytes) m (omega arith) is in
-        let same = ap (λ (x : ClockBound). x .clock) (r .is) in
-        record { mark = r .written; spelt = r .spelt; fine = record { clock = record { low = omega (arith, same); high = omega (arith, same) }; number = r .small }; rest = k ∙ ap (λ (x : ClockBound). box-from n true (tightened b x) ps) (r .is) }
-    | false ↦ λ _ k. absurd (false-never n b b′ ps k)
+      | true ↦ λ h k.
+          let q = and-parts (leb 1 (m .clock)) (leb (m .clock) n) (h refl) in
+          let low = leb-true 1 (m .clock) (q .0) in
+          let high = leb-true (m .clock) n (q .1) in
+          let r = limit-there (p .bytes) m (omega arith) is in
+          let same = ap (λ (x : ClockBound). x .clock) (r .is) in
+          record { mark = r .written; spelt = r .spelt; fine = record { clock = record { low = omega (arith, same); high = omega (arith, same) }; number = r .small }; rest = k ∙ ap (λ (x : ClockBound). box-from n true (tightened b x) ps) (r .is) }
+      | false ↦ λ _ k. absurd (false-never n b b′ ps k)
     ] (λ t. t) e
 
 first-there : (n : ℕ) (b b′ : List Side) (p : Place) (ps : List Place) → n ≤ 8 → Ok b′ ≡ box-from n true b (p ∷ ps) → First n b b′ p ps
@@ -263,8 +264,8 @@ list-there n b b′ p [] few e =
     let f = first-there n b b′ p [] few e in
     let is : b′ ≡ tightened b (held (f .mark)) = ok-box b′ (tightened b (held (f .mark))) (f .rest) in
     record { mark = f .mark; marks = []; spelt = f .spelt; fine = (f .fine, tt); box = is } where
-  ok-box : (x y : List Side) → _≡_ {A = Result (List Side) Refusal} (Ok x) (Ok y) → x ≡ y
-  ok-box x y q = cc
+      ok-box : (x y : List Side) → _≡_ {A = Result (List Side) Refusal} (Ok x) (Ok y) → x ≡ y
+      ok-box x y q = cc
 list-there n b b′ p (q ∷ qs) few e =
     let f = first-there n b b′ p (q ∷ qs) few e in
     let r = list-there n (tightened b (held (f .mark))) b′ q qs few (f .rest) in
@@ -285,11 +286,11 @@ pub box-only : (n : ℕ) (p : Place) (b : List Side) → n ≤ 8 → Ok b ≡ bo
 unfolding box-of tightened-by
 box-only n p b few e =
     elim (dash (p .bytes)) as (λ t. (t ≡ true → dash (p .bytes) ≡ true) → Ok b ≡ cond t (Ok no-sides) (box-from n true no-sides (parted 44 (p .at) (p .bytes))) → BoxSaid n (p .bytes) b) [
-      true ↦ λ h k. record { marks = []; spelt = dash-there (p .bytes) (h refl); fine = tt; box = ok-box b no-sides k }
-    | false ↦ λ _ k. parts-there n b (parted 44 (p .at) (p .bytes)) (p .bytes) few (joins-parted 44 (p .at) (p .bytes)) (parted-not-empty 44 (p .at) (p .bytes)) k
+      | true ↦ λ h k. record { marks = []; spelt = dash-there (p .bytes) (h refl); fine = tt; box = ok-box b no-sides k }
+      | false ↦ λ _ k. parts-there n b (parted 44 (p .at) (p .bytes)) (p .bytes) few (joins-parted 44 (p .at) (p .bytes)) (parted-not-empty 44 (p .at) (p .bytes)) k
     ] (λ t. t) e where
-  ok-box : (x y : List Side) → _≡_ {A = Result (List Side) Refusal} (Ok x) (Ok y) → x ≡ y
-  ok-box x y q = cc
+      ok-box : (x y : List Side) → _≡_ {A = Result (List Side) Refusal} (Ok x) (Ok y) → x ≡ y
+      ok-box x y q = cc
 
 pub apart : (x b : ℕ) → b < x → not (eqb x b) ≡ true
 apart x b h = grind (arith, tells)

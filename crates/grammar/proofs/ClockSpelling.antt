@@ -84,15 +84,15 @@ first-with n ms ms′ p ps None few is e = absurd (never (e ∙ not-number n tru
   never q = let z : _≡_ {A = ℕ} 0 1 = cc in omega arith
 first-with n ms ms′ p ps (Some v) few is e =
     elim (leb 1 v && leb v n) as (λ t. (leb 1 v && leb v n) ≡ t → First n ms ms′ p ps) [
-      true ↦ λ h.
-        let q = and-parts (leb 1 v) (leb v n) h in
-        let low = leb-true 1 v (q .0) in
-        let high = leb-true v n (q .1) in
-        record { clock = v; spelt = number-there (n + 1) v (p .bytes) (omega arith) (omega arith) is; fine = record { low = low; high = high }; rest = e ∙ one-clock n true ms p (p ∷ ps) refl v is low high }
-    | false ↦ λ h. let out : (1 ≤ v) × (v ≤ n) → ⊥ = λ r. outside v h r in absurd (false-never n ms ms′ ps (e ∙ no-clock n true ms p (p ∷ ps) refl v is out))
+      | true ↦ λ h.
+          let q = and-parts (leb 1 v) (leb v n) h in
+          let low = leb-true 1 v (q .0) in
+          let high = leb-true v n (q .1) in
+          record { clock = v; spelt = number-there (n + 1) v (p .bytes) (omega arith) (omega arith) is; fine = record { low = low; high = high }; rest = e ∙ one-clock n true ms p (p ∷ ps) refl v is low high }
+      | false ↦ λ h. let out : (1 ≤ v) × (v ≤ n) → ⊥ = λ r. outside v h r in absurd (false-never n ms ms′ ps (e ∙ no-clock n true ms p (p ∷ ps) refl v is out))
     ] refl where
-  outside : (v : ℕ) → (leb 1 v && leb v n) ≡ false → (1 ≤ v) × (v ≤ n) → ⊥
-  outside v h r = grind (arith, tells)
+      outside : (v : ℕ) → (leb 1 v && leb v n) ≡ false → (1 ≤ v) × (v ≤ n) → ⊥
+      outside v h r = grind (arith, tells)
 
 record Listed (n : ℕ) (ms ms′ : List Bool) (text : List ℕ) : Type 0 where
   clock : ℕ
@@ -124,8 +124,8 @@ pub clocks-only : (n : ℕ) (p : Place) (ms : List Bool) → n ≤ 8 → Ok ms �
 unfolding marked-by
 clocks-only n p ms few e =
     elim (dash (p .bytes)) as (λ t. (t ≡ true → dash (p .bytes) ≡ true) → Ok ms ≡ cond t (Ok (replicate 8 false)) (clocks-from n true (replicate 8 false) (parted 44 (p .at) (p .bytes))) → ClocksSaid n (p .bytes) ms) [
-      true ↦ λ h k. record { clocks = []; spelt = dash-there (p .bytes) (h refl); fine = tt; marks = ok-marks ms (replicate 8 false) k }
-    | false ↦ λ _ k. parts-there n ms (parted 44 (p .at) (p .bytes)) (p .bytes) few (joins-parted 44 (p .at) (p .bytes)) (parted-not-empty 44 (p .at) (p .bytes)) k
+      | true ↦ λ h k. record { clocks = []; spelt = dash-there (p .bytes) (h refl); fine = tt; marks = ok-marks ms (replicate 8 false) k }
+      | false ↦ λ _ k. parts-there n ms (parted 44 (p .at) (p .bytes)) (p .bytes) few (joins-parted 44 (p .at) (p .bytes)) (parted-not-empty 44 (p .at) (p .bytes)) k
     ] (λ t. t) e
 
 pub lacks-clocks : (b n : ℕ) (cs : List ℕ) → b < 44 → n ≤ 8 → All (OneOf n) cs → lacks b (spell-clocks cs) ≡ true

@@ -58,8 +58,8 @@ all-more Q (x ∷ xs) ys f g = (f .0, all-more Q xs ys (f .1) g)
 set-at : {R : Type 0} (Q : R → Type 0) (xs : List R) (k : ℕ) (x d : R) (i : ℕ) → k < length xs → Q x → Q (getD xs i d) → Q (getD (set xs k x) i d)
 set-at Q xs k x d i lt new old =
     elim (eqb i k) as (λ t. eqb i k ≡ t → Q (getD (set xs k x) i d)) [
-      true ↦ λ e. let is : k ≡ i = sym (eqb-true i k e) in subst (λ (j : ℕ). Q (getD (set xs k x) j d)) is (subst Q (sym (getD-set-same xs k x d lt)) new)
-    | false ↦ λ e. let ne : i ≢ k = λ q. let y = eq-eqb i k q in let z : _≡_ {A = ℕ} 0 1 = cc in omega arith in subst Q (sym (getD-set-other xs k i x d ne)) old
+      | true ↦ λ e. let is : k ≡ i = sym (eqb-true i k e) in subst (λ (j : ℕ). Q (getD (set xs k x) j d)) is (subst Q (sym (getD-set-same xs k x d lt)) new)
+      | false ↦ λ e. let ne : i ≢ k = λ q. let y = eq-eqb i k q in let z : _≡_ {A = ℕ} 0 1 = cc in omega arith in subst Q (sym (getD-set-other xs k i x d ne)) old
     ] refl
 
 -- ---- boxes
@@ -107,10 +107,10 @@ same-place (suc c) x (suc i) = same-place c x i
 
 none-good : (n : ℕ) → GoodSides n no-sides
 none-good n = record {
-    eight = refl;
-    free = λ i le. ap blank (same-place 8 no-side i);
-    good = λ i. subst GoodSide (sym (same-place 8 no-side i)) (record { low = tt; high = tt });
-  }
+  eight = refl;
+  free = λ i le. ap blank (same-place 8 no-side i);
+  good = λ i. subst GoodSide (sym (same-place 8 no-side i)) (record { low = tt; high = tt });
+}
 
 pub fine-box : (n : ℕ) (ms : List BoundText) → n ≤ 8 → All (FineBound n) ms → BoxOf n (box-by ms)
 fine-box n ms few f =
@@ -129,9 +129,11 @@ fine-marks n ms (c ∷ cs) few h f i le =
 -- ---- outcomes and their chances
 fine-outcome : (n p total k : ℕ) (o : OutcomeText) → n ≤ 8 → Names total k → FineOutcome n p o → OutcomeOf n p total (outcome-row k o)
 fine-outcome n p total k o few h f = record {
-    cause = h; chance = f .chance; target = (f .target .low, f .target .high);
-    resets = fine-marks n (replicate 8 false) (o .clocks) few (λ i le. same-place 8 false i) (f .clocks);
-  }
+  cause = h;
+  chance = f .chance;
+  target = (f .target .low, f .target .high);
+  resets = fine-marks n (replicate 8 false) (o .clocks) few (λ i le. same-place 8 false i) (f .clocks);
+}
 
 fine-outcomes : (n p total k : ℕ) (ms : List MoveText) → n ≤ 8 → 1 ≤ k → k + length ms ≤ total + 1 → All (FineMove n p) ms → All (OutcomeOf n p total) (outcome-rows k ms)
 fine-outcomes n p total k [] few one h f = tt
@@ -161,13 +163,13 @@ chances-all n p j k [] le lt f = absurd (omega arith)
 chances-all n p j k (m ∷ ms) le lt f =
     let more = chances-more j (map (outcome-row k) (m .outcomes)) (outcome-rows (k + 1) ms) in
     elim (eqb k j) as (λ t. eqb k j ≡ t → chances j (map (outcome-row k) (m .outcomes) ++ outcome-rows (k + 1) ms) ≡ 1000) [
-      true ↦ λ e.
-        let is : k ≡ j = eqb-true k j e in
-        let own : chances j (map (outcome-row k) (m .outcomes)) ≡ sum-of (m .outcomes) = ap (λ (x : ℕ). chances x (map (outcome-row k) (m .outcomes))) (sym is) ∙ chances-own k (m .outcomes) in
-        omega (arith, more, own, f .0 .sum, chances-later j (k + 1) ms (omega arith))
-    | false ↦ λ e.
-        let ne : k ≡ j → ⊥ = λ q. let y = eq-eqb k j q in let z : _≡_ {A = ℕ} 0 1 = cc in omega arith in
-        omega (arith, more, chances-other j k (m .outcomes) ne, chances-all n p j (k + 1) ms (omega arith) (omega arith) (f .1))
+      | true ↦ λ e.
+          let is : k ≡ j = eqb-true k j e in
+          let own : chances j (map (outcome-row k) (m .outcomes)) ≡ sum-of (m .outcomes) = ap (λ (x : ℕ). chances x (map (outcome-row k) (m .outcomes))) (sym is) ∙ chances-own k (m .outcomes) in
+          omega (arith, more, own, f .0 .sum, chances-later j (k + 1) ms (omega arith))
+      | false ↦ λ e.
+          let ne : k ≡ j → ⊥ = λ q. let y = eq-eqb k j q in let z : _≡_ {A = ℕ} 0 1 = cc in omega arith in
+          omega (arith, more, chances-other j k (m .outcomes) ne, chances-all n p j (k + 1) ms (omega arith) (omega arith) (f .1))
     ] refl
 
 -- ---- the whole plan

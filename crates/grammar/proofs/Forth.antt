@@ -115,16 +115,16 @@ byte-of letters.Unknown = 0
 letter-byte : (x : ℕ) → (letter-of (x ∷ []) ≡ letters.Unknown) ⊎ (x ≡ byte-of (letter-of (x ∷ [])))
 letter-byte x =
     elim (eqb x 84) as (λ t. (t ≡ true → x ≡ 84) → (cond t letters.Time (cond (eqb x 80) letters.Position (cond (eqb x 77) letters.Move (cond (eqb x 79) letters.Outcome (cond (eqb x 71) letters.Goal letters.Unknown)))) ≡ letters.Unknown) ⊎ (x ≡ byte-of (cond t letters.Time (cond (eqb x 80) letters.Position (cond (eqb x 77) letters.Move (cond (eqb x 79) letters.Outcome (cond (eqb x 71) letters.Goal letters.Unknown))))))) [
-      true ↦ λ h. inr (h refl)
-    | false ↦ λ _. elim (eqb x 80) as (λ t. (t ≡ true → x ≡ 80) → (cond t letters.Position (cond (eqb x 77) letters.Move (cond (eqb x 79) letters.Outcome (cond (eqb x 71) letters.Goal letters.Unknown))) ≡ letters.Unknown) ⊎ (x ≡ byte-of (cond t letters.Position (cond (eqb x 77) letters.Move (cond (eqb x 79) letters.Outcome (cond (eqb x 71) letters.Goal letters.Unknown)))))) [
-        true ↦ λ h. inr (h refl)
-      | false ↦ λ _. elim (eqb x 77) as (λ t. (t ≡ true → x ≡ 77) → (cond t letters.Move (cond (eqb x 79) letters.Outcome (cond (eqb x 71) letters.Goal letters.Unknown)) ≡ letters.Unknown) ⊎ (x ≡ byte-of (cond t letters.Move (cond (eqb x 79) letters.Outcome (cond (eqb x 71) letters.Goal letters.Unknown))))) [
-          true ↦ λ h. inr (h refl)
-        | false ↦ λ _. elim (eqb x 79) as (λ t. (t ≡ true → x ≡ 79) → (cond t letters.Outcome (cond (eqb x 71) letters.Goal letters.Unknown) ≡ letters.Unknown) ⊎ (x ≡ byte-of (cond t letters.Outcome (cond (eqb x 71) letters.Goal letters.Unknown)))) [
-            true ↦ λ h. inr (h refl)
-          | false ↦ λ _. elim (eqb x 71) as (λ t. (t ≡ true → x ≡ 71) → (cond t letters.Goal letters.Unknown ≡ letters.Unknown) ⊎ (x ≡ byte-of (cond t letters.Goal letters.Unknown))) [
-              true ↦ λ h. inr (h refl)
-            | false ↦ λ _. inl refl
+      | true ↦ λ h. inr (h refl)
+      | false ↦ λ _. elim (eqb x 80) as (λ t. (t ≡ true → x ≡ 80) → (cond t letters.Position (cond (eqb x 77) letters.Move (cond (eqb x 79) letters.Outcome (cond (eqb x 71) letters.Goal letters.Unknown))) ≡ letters.Unknown) ⊎ (x ≡ byte-of (cond t letters.Position (cond (eqb x 77) letters.Move (cond (eqb x 79) letters.Outcome (cond (eqb x 71) letters.Goal letters.Unknown)))))) [
+        | true ↦ λ h. inr (h refl)
+        | false ↦ λ _. elim (eqb x 77) as (λ t. (t ≡ true → x ≡ 77) → (cond t letters.Move (cond (eqb x 79) letters.Outcome (cond (eqb x 71) letters.Goal letters.Unknown)) ≡ letters.Unknown) ⊎ (x ≡ byte-of (cond t letters.Move (cond (eqb x 79) letters.Outcome (cond (eqb x 71) letters.Goal letters.Unknown))))) [
+          | true ↦ λ h. inr (h refl)
+          | false ↦ λ _. elim (eqb x 79) as (λ t. (t ≡ true → x ≡ 79) → (cond t letters.Outcome (cond (eqb x 71) letters.Goal letters.Unknown) ≡ letters.Unknown) ⊎ (x ≡ byte-of (cond t letters.Outcome (cond (eqb x 71) letters.Goal letters.Unknown)))) [
+            | true ↦ λ h. inr (h refl)
+            | false ↦ λ _. elim (eqb x 71) as (λ t. (t ≡ true → x ≡ 71) → (cond t letters.Goal letters.Unknown ≡ letters.Unknown) ⊎ (x ≡ byte-of (cond t letters.Goal letters.Unknown))) [
+              | true ↦ λ h. inr (h refl)
+              | false ↦ λ _. inl refl
             ] (λ t. grind (arith, tells))
           ] (λ t. grind (arith, tells))
         ] (λ t. grind (arith, tells))
@@ -204,8 +204,8 @@ module _ (s t : State) (line : ℕ) (p first : Place) (sound : Sound s) (all : f
         stands = record { order = demanded-true _ Order line p (c .1); chances = λ _. sum; range = (record { low = n .0; high = n .1 }, w .fine); room = demanded-true _ Rows line p (f .1) };
         leads = ok-same t (moved (number-in (d .0)) (box-in (g .0))) (f .2) ∙ ap (moved (number-in (d .0))) (w .is);
       } where
-    moved : ℕ → ClockBox → State
-    moved v b = record { phase = phases.Moves; time = s .time; clocks = s .clocks; opened = line; opening = p; rows = with-move (s .rows) (record { source = v; guard = b; sum = 0 }) }
+        moved : ℕ → ClockBox → State
+        moved v b = record { phase = phases.Moves; time = s .time; clocks = s .clocks; opened = line; opening = p; rows = with-move (s .rows) (record { source = v; guard = b; sum = 0 }) }
 
   goal-said : first .bytes ≡ 71 ∷ [] → summed (bare s) ≡ true → Ok t ≡ goal-line s line p (tail-places (fields-of p)) → Said s t line p
   goal-said byte sum e =
@@ -226,8 +226,8 @@ module _ (s t : State) (line : ℕ) (p first : Place) (sound : Sound s) (all : f
         stands = record { order = demanded-true _ Order line p (c .1); chances = λ _. sum; range = record { position = record { low = n .0; high = n .1 }; area = w .fine }; room = demanded-true _ Rows line p (f .1) };
         leads = ok-same t (aimed (number-in (d .0)) (box-in (g .0))) (f .2) ∙ ap (aimed (number-in (d .0))) (w .is);
       } where
-    aimed : ℕ → ClockBox → State
-    aimed v b = record { phase = phases.Goals; time = s .time; clocks = s .clocks; opened = s .opened; opening = s .opening; rows = with-goal (s .rows) (record { position = v; area = b }) }
+        aimed : ℕ → ClockBox → State
+        aimed v b = record { phase = phases.Goals; time = s .time; clocks = s .clocks; opened = s .opened; opening = s .opening; rows = with-goal (s .rows) (record { position = v; area = b }) }
 
   outcome-said : first .bytes ≡ 79 ∷ [] → Ok t ≡ outcome-line s line p (tail-places (fields-of p)) → Said s t line p
   outcome-said byte e =
@@ -251,8 +251,8 @@ module _ (s t : State) (line : ℕ) (p first : Place) (sound : Sound s) (all : f
         stands = record { order = demanded-true _ Order line p (d .1); chances = λ w. absurd (true≢false w); range = record { chance = n .1; target = record { low = m .0; high = m .1 }; clocks = w .fine }; room = demanded-true _ Rows line p (h .1) };
         leads = ok-same t (came (number-in (f .0)) (number-in (g .0)) (clocks-in (k .0))) (h .2) ∙ ap (came (number-in (f .0)) (number-in (g .0))) (w .marks);
       } where
-    came : ℕ → ℕ → List Bool → State
-    came c v rs = with-rows s (with-outcome (s .rows) (record { cause = s .rows .moves .used; chance = c; target = v; resets = rs }))
+        came : ℕ → ℕ → List Bool → State
+        came c v rs = with-rows s (with-outcome (s .rows) (record { cause = s .rows .moves .used; chance = c; target = v; resets = rs }))
 
   time-said : first .bytes ≡ 84 ∷ [] → summed (bare s) ≡ true → Ok t ≡ time-line s line p (tail-places (fields-of p)) → Said s t line p
   time-said byte sum e =

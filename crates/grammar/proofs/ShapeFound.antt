@@ -79,30 +79,51 @@ summed-there k n P M O G e = equal (open-sum M) e where
 moves-shape : (k : PlanTime) (n : ℕ) (P : Kept Position) (M : Kept Move) (O : Kept Outcome) (G : Kept Goal) (items : List LineText) (e : Part) → 1 ≤ M .used → Fits 256 M 0 → Fits 512 O 0 → Fits 64 G 0 → Leads (at phases.Moves k n P M O G) items e → Whole e → MovesShape n (P .used) M O G items
 moves-shape k n P M O G [] e one m o g l w =
     record {
-      outcomes = []; moves = []; goals = []; is = refl; fine-outcomes = tt; fine-moves = tt; fine-goals = tt;
+      outcomes = [];
+      moves = [];
+      goals = [];
+      is = refl;
+      fine-outcomes = tt;
+      fine-moves = tt;
+      fine-goals = tt;
       sum = summed-there k n P M O G (subst Whole (sym l) w .chances);
-      fits-moves = m; fits-outcomes = o; fits-goals = g;
+      fits-moves = m;
+      fits-outcomes = o;
+      fits-goals = g;
     }
 moves-shape k n P M O G (time k′ n′ ∷ is) e one m o g l w = false-never (l .0 .order)
 moves-shape k n P M O G (position ms ∷ is) e one m o g l w = false-never (l .0 .order)
 moves-shape k n P M O G (goal x ∷ is) e one m o g l w =
     let rest = goals-shape k n P M O (put G (goal-row x)) is e (fits-put 64 G (goal-row x) (room-parts 64 G (l .0 .room))) (l .1) in
     record {
-      outcomes = []; moves = []; goals = x ∷ rest .goals; is = ap (λ xs. goal x ∷ xs) (rest .is); fine-outcomes = tt; fine-moves = tt; fine-goals = (l .0 .range, rest .fine);
+      outcomes = [];
+      moves = [];
+      goals = x ∷ rest .goals;
+      is = ap (λ xs. goal x ∷ xs) (rest .is);
+      fine-outcomes = tt;
+      fine-moves = tt;
+      fine-goals = (l .0 .range, rest .fine);
       sum = summed-there k n P M O G (l .0 .chances refl);
-      fits-moves = m; fits-outcomes = o; fits-goals = fits-one 64 G (goal-row x) (length (rest .goals)) (rest .fits);
+      fits-moves = m;
+      fits-outcomes = o;
+      fits-goals = fits-one 64 G (goal-row x) (length (rest .goals)) (rest .fits);
     }
 moves-shape k n P M O G (outcome x ∷ is) e one m o g l w =
     let row = outcome-row (M .used) x in
     let rest = moves-shape k n P (raised-open (x .chance) M) (put O (outcome-row (M .used) x)) G is e one (record { few = m .few; there = omega (arith, m .there, length-set (M .rows) (M .used - 1) (raised (held-row M (M .used)) (x .chance))) }) (fits-put 512 O (outcome-row (M .used) x) (room-parts 512 O (l .0 .room))) g (l .1) w in
     record {
-      outcomes = x ∷ rest .outcomes; moves = rest .moves; goals = rest .goals; is = ap (λ xs. outcome x ∷ xs) (rest .is);
-      fine-outcomes = (l .0 .range, rest .fine-outcomes); fine-moves = rest .fine-moves; fine-goals = rest .fine-goals;
+      outcomes = x ∷ rest .outcomes;
+      moves = rest .moves;
+      goals = rest .goals;
+      is = ap (λ xs. outcome x ∷ xs) (rest .is);
+      fine-outcomes = (l .0 .range, rest .fine-outcomes);
+      fine-moves = rest .fine-moves;
+      fine-goals = rest .fine-goals;
       sum = omega (arith, rest .sum, raises (x .chance) M one (omega (arith, m .there)));
       fits-moves = record { few = rest .fits-moves .few; there = omega (arith, rest .fits-moves .there, length-set (M .rows) (M .used - 1) (raised (held-row M (M .used)) (x .chance))) };
       fits-outcomes =
-        let f = fits-one 512 O (outcome-row (M .used) x) (length (rest .outcomes) + outcome-count (rest .moves)) (rest .fits-outcomes) in
-        record { few = omega (arith, f .few); there = omega (arith, f .there) };
+          let f = fits-one 512 O (outcome-row (M .used) x) (length (rest .outcomes) + outcome-count (rest .moves)) (rest .fits-outcomes) in
+          record { few = omega (arith, f .few); there = omega (arith, f .there) };
       fits-goals = rest .fits-goals;
     }
 moves-shape k n P M O G (move f ms ∷ is) e one m o g l w =
@@ -111,7 +132,9 @@ moves-shape k n P M O G (move f ms ∷ is) e one m o g l w =
     let rest = moves-shape k n P (put M row) O G is e (omega arith) (fits-put 256 M row space) o g (l .1) w in
     let x : MoveText = record { source = f; guard = ms; outcomes = rest .outcomes } in
     record {
-      outcomes = []; moves = record { source = f; guard = ms; outcomes = rest .outcomes } ∷ rest .moves; goals = rest .goals;
+      outcomes = [];
+      moves = record { source = f; guard = ms; outcomes = rest .outcomes } ∷ rest .moves;
+      goals = rest .goals;
       is = ap (λ xs. move f ms ∷ xs) (rest .is ∙ sym (append-assoc (map outcome (rest .outcomes)) (move-lines (rest .moves)) (map goal (rest .goals))));
       fine-outcomes = tt;
       fine-moves = (record { source = l .0 .range .0; guard = l .0 .range .1; outcomes = rest .fine-outcomes; sum = omega (arith, rest .sum, opens M row (space .1)) }, rest .fine-moves);
@@ -140,9 +163,18 @@ record PositionsShape (n : ℕ) (P : Kept Position) (M : Kept Move) (O : Kept Ou
 positions-shape : (k : PlanTime) (n : ℕ) (P : Kept Position) (M : Kept Move) (O : Kept Outcome) (G : Kept Goal) (items : List LineText) (e : Part) → Fits 64 P 0 → Fits 256 M 0 → Fits 512 O 0 → Fits 64 G 0 → Leads (at phases.Positions k n P M O G) items e → Whole e → PositionsShape n P M O G items
 positions-shape k n P M O G [] e p m o g l w =
     record {
-      positions = []; moves = []; goals = []; is = refl;
+      positions = [];
+      moves = [];
+      goals = [];
+      is = refl;
       some = omega (arith, ltb-true 0 (P .used) (subst Whole (sym l) w .some));
-      fine-positions = tt; fine-moves = tt; fine-goals = tt; fits-positions = p; fits-moves = m; fits-outcomes = o; fits-goals = g;
+      fine-positions = tt;
+      fine-moves = tt;
+      fine-goals = tt;
+      fits-positions = p;
+      fits-moves = m;
+      fits-outcomes = o;
+      fits-goals = g;
     }
 positions-shape k n P M O G (time k′ n′ ∷ is) e p m o g l w = false-never (l .0 .order)
 positions-shape k n P M O G (outcome x ∷ is) e p m o g l w = false-never (l .0 .order)
@@ -150,23 +182,35 @@ positions-shape k n P M O G (position ms ∷ is) e p m o g l w =
     let rest = positions-shape k n (put P (position-row ms)) M O G is e (fits-put 64 P (position-row ms) (room-parts 64 P (l .0 .room))) m o g (l .1) w in
     let same : P .used + 1 + length (rest .positions) ≡ P .used + suc (length (rest .positions)) = omega arith in
     record {
-      positions = ms ∷ rest .positions; moves = rest .moves; goals = rest .goals; is = ap (λ xs. position ms ∷ xs) (rest .is);
+      positions = ms ∷ rest .positions;
+      moves = rest .moves;
+      goals = rest .goals;
+      is = ap (λ xs. position ms ∷ xs) (rest .is);
       some = omega arith;
       fine-positions = (l .0 .range, rest .fine-positions);
       fine-moves = subst (λ (c : ℕ). All (FineMove n c) (rest .moves)) same (rest .fine-moves);
       fine-goals = subst (λ (c : ℕ). All (FineGoal n c) (rest .goals)) same (rest .fine-goals);
       fits-positions = fits-one 64 P (position-row ms) (length (rest .positions)) (rest .fits-positions);
-      fits-moves = rest .fits-moves; fits-outcomes = rest .fits-outcomes; fits-goals = rest .fits-goals;
+      fits-moves = rest .fits-moves;
+      fits-outcomes = rest .fits-outcomes;
+      fits-goals = rest .fits-goals;
     }
 positions-shape k n P M O G (goal x ∷ is) e p m o g l w =
     let rest = goals-shape k n P M O (put G (goal-row x)) is e (fits-put 64 G (goal-row x) (room-parts 64 G (l .0 .room))) (l .1) in
     let same : P .used ≡ P .used + 0 = omega arith in
     record {
-      positions = []; moves = []; goals = x ∷ rest .goals; is = ap (λ xs. goal x ∷ xs) (rest .is);
+      positions = [];
+      moves = [];
+      goals = x ∷ rest .goals;
+      is = ap (λ xs. goal x ∷ xs) (rest .is);
       some = omega (arith, ltb-true 0 (P .used) (l .0 .order));
-      fine-positions = tt; fine-moves = tt;
+      fine-positions = tt;
+      fine-moves = tt;
       fine-goals = subst (λ (c : ℕ). All (FineGoal n c) (x ∷ rest .goals)) same (l .0 .range, rest .fine);
-      fits-positions = p; fits-moves = m; fits-outcomes = o; fits-goals = fits-one 64 G (goal-row x) (length (rest .goals)) (rest .fits);
+      fits-positions = p;
+      fits-moves = m;
+      fits-outcomes = o;
+      fits-goals = fits-one 64 G (goal-row x) (length (rest .goals)) (rest .fits);
     }
 positions-shape k n P M O G (move f ms ∷ is) e p m o g l w =
     let row : Move = record { source = f; guard = box-by ms; sum = 0 } in
@@ -175,13 +219,16 @@ positions-shape k n P M O G (move f ms ∷ is) e p m o g l w =
     let same : P .used ≡ P .used + 0 = omega arith in
     let x : MoveText = record { source = f; guard = ms; outcomes = rest .outcomes } in
     record {
-      positions = []; moves = record { source = f; guard = ms; outcomes = rest .outcomes } ∷ rest .moves; goals = rest .goals;
+      positions = [];
+      moves = record { source = f; guard = ms; outcomes = rest .outcomes } ∷ rest .moves;
+      goals = rest .goals;
       is = ap (λ xs. move f ms ∷ xs) (rest .is ∙ sym (append-assoc (map outcome (rest .outcomes)) (move-lines (rest .moves)) (map goal (rest .goals))));
       some = omega (arith, ltb-true 0 (P .used) (l .0 .order));
       fine-positions = tt;
       fine-moves = subst (λ (c : ℕ). All (FineMove n c) (record { source = f; guard = ms; outcomes = rest .outcomes } ∷ rest .moves)) same (record { source = l .0 .range .0; guard = l .0 .range .1; outcomes = rest .fine-outcomes; sum = omega (arith, rest .sum, opens M row (space .1)) }, rest .fine-moves);
       fine-goals = subst (λ (c : ℕ). All (FineGoal n c) (rest .goals)) same (rest .fine-goals);
-      fits-positions = p; fits-moves = fits-one 256 M row (length (rest .moves)) (rest .fits-moves);
+      fits-positions = p;
+      fits-moves = fits-one 256 M row (length (rest .moves)) (rest .fits-moves);
       fits-outcomes = record { few = omega (arith, rest .fits-outcomes .few); there = omega (arith, rest .fits-outcomes .there) };
       fits-goals = rest .fits-goals;
     }

@@ -41,9 +41,10 @@ room limit k a b = and-from _ _ (lt-ltb (k .used) limit a) (lt-ltb (k .used) (le
 module _ (k : PlanTime) (n : ℕ) where
   leads-positions : (P : Kept Position) (M : Kept Move) (O : Kept Outcome) (G : Kept Goal) (ps : List (List BoundText)) → All (All (FineBound n)) ps → P .used + length ps ≤ 64 → P .used + length ps ≤ length (P .rows) → Leads (at phases.Positions k n P M O G) (map position ps) (at phases.Positions k n (puts P (map position-row ps)) M O G)
   leads-positions P M O G [] f a b = refl
-  leads-positions P M O G (m ∷ ms) f a b =
-      (record { order = refl; chances = λ _. refl; range = f .0; room = room 64 P (omega arith) (omega arith) },
-       leads-positions (put P (position-row m)) M O G ms (f .1) (omega arith) (omega (arith, length-set (P .rows) (P .used) (position-row m))))
+  leads-positions P M O G (m ∷ ms) f a b = (
+    record { order = refl; chances = λ _. refl; range = f .0; room = room 64 P (omega arith) (omega arith) },
+    leads-positions (put P (position-row m)) M O G ms (f .1) (omega arith) (omega (arith, length-set (P .rows) (P .used) (position-row m))),
+  )
 
   leads-outcomes : (P : Kept Position) (l : Kept Move) (row : Move) (O : Kept Outcome) (G : Kept Goal) (os : List OutcomeText) → l .used < length (l .rows) → All (FineOutcome n (P .used)) os → O .used + length os ≤ 512 → O .used + length os ≤ length (O .rows)
       → Leads (at phases.Moves k n P (put l row) O G) (map outcome os) (at phases.Moves k n P (put l (raised row (sum-of os))) (puts O (map (outcome-row (l .used + 1)) os)) G)
@@ -52,9 +53,10 @@ module _ (k : PlanTime) (n : ℕ) where
       let x = outcome-row (l .used + 1) o in
       let O′ = put O (outcome-row (l .used + 1) o) in
       let more = leads-outcomes P l (raised row (o .chance)) O′ G os lt (f .1) (omega arith) (omega (arith, length-set (O .rows) (O .used) (outcome-row (l .used + 1) o))) in
-      let front = subst (λ (M : Kept Move). Leads (at phases.Moves k n P M O′ G) (map outcome os) (at phases.Moves k n P (put l (raised (raised row (o .chance)) (sum-of os))) (puts O′ (map (outcome-row (l .used + 1)) os)) G)) (sym (raise-put (o .chance) l row lt)) more in
-      (record { order = refl; chances = λ w. absurd (true≢false w); range = f .0; room = room 512 O (omega arith) (omega arith) },
-       subst (λ (r : Move). Leads (with (at phases.Moves k n P (put l row) O G) (outcome o)) (map outcome os) (at phases.Moves k n P (put l r) (puts O′ (map (outcome-row (l .used + 1)) os)) G)) (raised-twice row (o .chance) (sum-of os)) front)
+      let front = subst (λ (M : Kept Move). Leads (at phases.Moves k n P M O′ G) (map outcome os) (at phases.Moves k n P (put l (raised (raised row (o .chance)) (sum-of os))) (puts O′ (map (outcome-row (l .used + 1)) os)) G)) (sym (raise-put (o .chance) l row lt)) more in (
+        record { order = refl; chances = λ w. absurd (true≢false w); range = f .0; room = room 512 O (omega arith) (omega arith) },
+        subst (λ (r : Move). Leads (with (at phases.Moves k n P (put l row) O G) (outcome o)) (map outcome os) (at phases.Moves k n P (put l r) (puts O′ (map (outcome-row (l .used + 1)) os)) G)) (raised-twice row (o .chance) (sum-of os)) front,
+      )
 
   -- the phase after moves, and after goals
   abbrev pub past-moves : Phase → List MoveText → Phase
@@ -101,8 +103,10 @@ module _ (k : PlanTime) (n : ℕ) where
       let end = at phases.Moves k n P (puts M′ (map move-row ms)) (puts O (outcome-rows (M .used + 1) (m ∷ ms))) G in
       let same : at (past-moves phases.Moves ms) k n P (puts M′ (map move-row ms)) (puts O′ (outcome-rows (M .used + 1 + 1) ms)) G ≡ at phases.Moves k n P (puts M′ (map move-row ms)) (puts O (outcome-rows (M .used + 1) (m ∷ ms))) G = (λ i. at (past-once ms i) k n P (puts M′ (map move-row ms)) (sym (puts-more O os (outcome-rows (M .used + 1 + 1) ms)) i) G) in
       record {
-        leads = (record { order = may .move; chances = λ _. may .sum; range = (f .0 .source, f .0 .guard); room = room 256 M (omega arith) lt },
-                 leads-more _ _ _ (map outcome (m .outcomes)) (move-lines ms) outs′ (subst (λ (e : Part). Leads (at phases.Moves k n P M′ O′ G) (move-lines ms) e) same (rest .leads)));
+        leads = (
+          record { order = may .move; chances = λ _. may .sum; range = (f .0 .source, f .0 .guard); room = room 256 M (omega arith) lt },
+          leads-more _ _ _ (map outcome (m .outcomes)) (move-lines ms) outs′ (subst (λ (e : Part). Leads (at phases.Moves k n P M′ O′ G) (move-lines ms) e) same (rest .leads)),
+        );
         after = subst Open same (rest .after);
       }
 
@@ -153,7 +157,9 @@ plan-leads t w f s =
     let two = leads-moves k n phases.Positions P M O G (w .moves) (record { move = some; goal = some; sum = refl }) (subst (λ (p : ℕ). All (FineMove n p) (w .moves)) (sym used) (f .moves)) (omega (arith, f .few-moves)) (omega (arith, s .moves)) (omega (arith, f .few-outcomes)) (omega (arith, s .outcomes)) in
     let three = leads-goals k n (past-moves k n phases.Positions (w .moves)) P (puts M (map move-row (w .moves))) (puts O (outcome-rows 1 (w .moves))) G (w .goals) (two .after .goal) (two .after .sum) (subst (λ (p : ℕ). All (FineGoal n p) (w .goals)) (sym used) (f .goals)) (omega (arith, f .few-goals)) (omega (arith, s .goals)) in
     record {
-      leads = (record { order = refl; chances = λ _. refl; range = f .clocks; room = refl },
-               leads-more _ _ _ (map position (w .positions)) (move-lines (w .moves) ++ map goal (w .goals)) one (leads-more _ _ _ (move-lines (w .moves)) (map goal (w .goals)) (two .leads) (three .leads)));
+      leads = (
+        record { order = refl; chances = λ _. refl; range = f .clocks; room = refl },
+        leads-more _ _ _ (map position (w .positions)) (move-lines (w .moves) ++ map goal (w .goals)) one (leads-more _ _ _ (move-lines (w .moves)) (map goal (w .goals)) (two .leads) (three .leads)),
+      );
       whole = three .whole;
     }

@@ -73,7 +73,10 @@ finished-said s line p h r e =
     let a = on-ok {X = Unit {0}} (settled s) _ h f in
     let b = on-ok {X = Unit {0}} (demanded (stands-at letters.Goal (s .phase) (s .rows .positions .used)) Order line p) _ h (a .2) in
     record {
-      items = []; plan = bare s; lines = refl; leads = refl;
+      items = [];
+      plan = bare s;
+      lines = refl;
+      leads = refl;
       whole = record { some = demanded-true _ Order line p (b .1); chances = settled-there s (a .0) (a .1) };
       head = ok-same h (header-of s) (b .2);
       rows = sym (ap (λ (z : Ending). z .rows) e);
@@ -84,8 +87,8 @@ torn-never s line p h e =
     let a = on-ok {X = Place} (field-next line p (fields-of p)) _ h e in
     let b = on-ok {X = Unit {0}} (settled-by (letter-of (a .0 .bytes)) s) _ h (a .2) in
     never (b .2) where
-  never : _≡_ {A = Result Header Fault} (Ok h) (refused Line line 0 p) → ⊥
-  never q = let z : _≡_ {A = ℕ} 0 1 = cc in omega arith
+      never : _≡_ {A = Result Header Fault} (Ok h) (refused Line line 0 p) → ⊥
+      never q = let z : _≡_ {A = ℕ} 0 1 = cc in omega arith
 
 ending-said : (bs : List ℕ) (at : ℕ) (s : State) (line : ℕ) (h : Header) (r : Tables) → ending (record { bytes = bs; at = at }) s line ≡ good h r → Ends bs s h r
 ending-said [] at s line h r e = finished-said s (line + 1) (record { bytes = []; at = at }) h r e
@@ -97,11 +100,14 @@ refused-never f s h r e = let q : _≡_ {A = Result Header Fault} (Err f) (Ok h)
 said-more : (s t : State) (line : ℕ) (p : Place) (rest : List ℕ) (h : Header) (r : Tables) → Said s t line p → Ends rest t h r → Ends (p .bytes ++ (10 ∷ rest)) s h r
 unfolding spelled
 said-more s t line p rest h r d k = record {
-    items = d .item ∷ k .items; plan = k .plan;
-    lines = (λ i. d .spelt i ++ (10 ∷ k .lines i));
-    leads = (d .stands, subst (λ (b : Part). Leads b (k .items) (k .plan)) (ap bare (d .leads) ∙ next-bare s line p (d .item)) (k .leads));
-    whole = k .whole; head = k .head; rows = k .rows;
-  }
+  items = d .item ∷ k .items;
+  plan = k .plan;
+  lines = (λ i. d .spelt i ++ (10 ∷ k .lines i));
+  leads = (d .stands, subst (λ (b : Part). Leads b (k .items) (k .plan)) (ap bare (d .leads) ∙ next-bare s line p (d .item)) (k .leads));
+  whole = k .whole;
+  head = k .head;
+  rows = k .rows;
+}
 
 run-said : (ps : List Place) (s : State) (line : ℕ) (h : Header) (r : Tables) → Sound s → run ps s line ≡ good h r → Ends (joins 10 ps) s h r
 unfolding run step
@@ -109,8 +115,8 @@ run-said [] s line h r sound e = ending-said [] 0 s line h r e
 run-said (p ∷ []) s line h r sound e = ending-said (p .bytes) (p .at) s line h r e
 run-said (p ∷ (q ∷ qs)) s line h r sound e =
     elim (stepped s (line + 1) p) as (λ x. x ≡ stepped s (line + 1) p → after x s (λ t. run (q ∷ qs) t (line + 1)) ≡ good h r → Ends (p .bytes ++ (10 ∷ joins 10 (q ∷ qs))) s h r) [
-      Ok t ↦ λ is k. said-more s t (line + 1) p (joins 10 (q ∷ qs)) h r (step-said s t (line + 1) p sound is) (run-said (q ∷ qs) t (line + 1) h r (step-sound s t (line + 1) p sound is) k)
-    | Err f ↦ λ is k. absurd (refused-never f s h r k)
+      | Ok t ↦ λ is k. said-more s t (line + 1) p (joins 10 (q ∷ qs)) h r (step-said s t (line + 1) p sound is) (run-said (q ∷ qs) t (line + 1) h r (step-sound s t (line + 1) p sound is) k)
+      | Err f ↦ λ is k. absurd (refused-never f s h r k)
     ] refl e
 
 -- no line of a plan has byte 10 inside
@@ -163,9 +169,9 @@ pub record Led (text : List ℕ) (t : Tables) (h : Header) (r : Tables) : Type 0
 pub only-led : (text : List ℕ) (t : Tables) (h : Header) (r : Tables) → read-text text t ≡ good h r → Led text t h r
 only-led text t h r e =
     elim (leb (length text) 16384) as (λ x. (x ≡ true → length text ≤ 16384) → cond x (run (parted 10 0 text) (start (none-taken t)) 0) (stopped (refused Rows 0 0 (record { bytes = text; at = 0 })) (start t)) ≡ good h r → Led text t h r) [
-      true ↦ λ le k. let d = run-said (parted 10 0 text) (start (none-taken t)) 0 h r (start-sound t) k in
-        record { items = d .items; plan = d .plan; short = le refl; lines = sym (joins-parted 10 0 text) ∙ d .lines; leads = d .leads; whole = d .whole }
-    | false ↦ λ _ k. absurd (refused-never (record { refusal = Rows; line = 0; field = 0; part = record { bytes = text; at = 0 } }) (start t) h r k)
+      | true ↦ λ le k. let d = run-said (parted 10 0 text) (start (none-taken t)) 0 h r (start-sound t) k in
+          record { items = d .items; plan = d .plan; short = le refl; lines = sym (joins-parted 10 0 text) ∙ d .lines; leads = d .leads; whole = d .whole }
+      | false ↦ λ _ k. absurd (refused-never (record { refusal = Rows; line = 0; field = 0; part = record { bytes = text; at = 0 } }) (start t) h r k)
     ] (leb-true (length text) 16384) e
 
 pub all-led : (items : List LineText) (text : List ℕ) (t : Tables) (b : Part) → length text ≤ 16384 → text ≡ spelled items → Leads (empty (none-taken t)) items b → Whole b → read-text text t ≡ accepted b

@@ -5,6 +5,9 @@ ghost use Rattle.texts.specs.Texts.{read-text};
 ghost use Rattle.plans.specs.RowLists.{kept, taken};
 ghost use Rattle.grammar.specs.Grammar.{KeepsTo, OnePlan};
 ghost use Rattle.grammar.specs.Tables.{PassesCheck};
+
+pub mod table;
+
 use texts::fault::TextFault;
 use texts::plan_rows::PlanRows;
 use texts::plan_text::read_plan;

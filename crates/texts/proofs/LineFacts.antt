@@ -33,10 +33,11 @@ stands-outcome phases.Goals n e = absurd (let z : _≡_ {A = ℕ} 0 1 = cc in om
 in-range-high : (low high : ℕ) (out : Refusal) (line field : ℕ) (p : Place) (o : Option ℕ) (f : Shown) → Ok f ≡ in-range low high out line field p o → number-in f ≤ high
 in-range-high low high out line field p None f e = absurd (let z : _≡_ {A = ℕ} 0 1 = cc in omega arith)
 in-range-high low high out line field p (Some v) f e = elim f as (λ f. Ok f ≡ in-range low high out line field p (Some v) → number-in f ≤ high) [
-    word q ↦ λ e. omega arith
+  | word q ↦ λ e. omega arith
   | number w q ↦ λ e. grind (arith, tells)
   | clocks ms q ↦ λ e. omega arith
-  | bounds b q ↦ λ e. omega arith ] e
+  | bounds b q ↦ λ e. omega arith
+] e
 
 pub field-high : (low high : ℕ) (out : Refusal) (line field : ℕ) (p : Place) (f : Shown) → Ok f ≡ number-field low high out line field p → number-in f ≤ high
 field-high low high out line field p f e = in-range-high low high out line field p (number-to (high + 1) (p .bytes)) f e

@@ -46,8 +46,15 @@ fn bound_of(upper: bool, closed: bool, clock: &[u8], number: &[u8]) -> Option<Cl
             None => None,
             Some(number) => {
                 if number <= 1_000_000 {
-                    let bound = Bound { number: number as i32, closed };
-                    Some(ClockBound { clock, upper, bound })
+                    let bound = Bound {
+                        number: number as i32,
+                        closed,
+                    };
+                    Some(ClockBound {
+                        clock,
+                        upper,
+                        bound,
+                    })
                 } else {
                     None
                 }
@@ -109,20 +116,34 @@ fn narrowed(side: Side, upper: bool, bound: Bound) -> Side
     ensures { λ r. ⌜ r ≡ side-with side upper bound ⌝ }
 {
     if upper {
-        Side { lower: side.lower, upper: tightest_of(true, side.upper, bound) }
+        Side {
+            lower: side.lower,
+            upper: tightest_of(true, side.upper, bound),
+        }
     } else {
-        Side { lower: tightest_of(false, side.lower, bound), upper: side.upper }
+        Side {
+            lower: tightest_of(false, side.lower, bound),
+            upper: side.upper,
+        }
     }
 }
 
 impl<'t> Line<'t> {
     // Bounds on clocks from 1 to `known`, parted by commas, or `-` for none. Of several on one side of a clock the tightest counts.
-    pub fn clock_box(self, field: usize, part: Part<'t>, known: u64) -> Result<Field<'t>, TextFault<'t>>
+    pub fn clock_box(
+        self,
+        field: usize,
+        part: Part<'t>,
+        known: u64,
+    ) -> Result<Field<'t>, TextFault<'t>>
         requires few { ⌜ known ≤ 8 ⌝ }
         requires placed { ⌜ part .at + length (now (part .bytes)) < 2 ^ 64 ⌝ }
         ensures { λ r. ⌜ seen-field r ≡ box-field known (self .entry .number) field (place (part .entry)) ⌝ }
     {
-        let mut sides = [Side { lower: None, upper: None }; 8];
+        let mut sides = [Side {
+            lower: None,
+            upper: None,
+        }; 8];
         if part.bytes.len() == 1 && part.bytes[0] == b'-' {
             return Ok(Field::Bounds(ClockBox { sides }, part));
         }

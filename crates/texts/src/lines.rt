@@ -31,13 +31,19 @@ fn settle<'t>(progress: Progress<'t>, rows: &PlanRows) -> Result<(), TextFault<'
     ensures { λ r. ⌜ faulty r ≡ settled (state (progress .entry) (tables (now (rows .entry)))) ⌝ }
 {
     match progress.phase {
-        Phase::Moves => progress.opening.demand(sum_of_open(&rows.moves) == 1000, Refusal::Chance),
+        Phase::Moves => progress
+            .opening
+            .demand(sum_of_open(&rows.moves) == 1000, Refusal::Chance),
         _ => Ok(()),
     }
 }
 
 // A line of this kind may follow: only an outcome leaves the open move open.
-fn settle_by<'t>(letter: Letter, progress: Progress<'t>, rows: &PlanRows) -> Result<(), TextFault<'t>>
+fn settle_by<'t>(
+    letter: Letter,
+    progress: Progress<'t>,
+    rows: &PlanRows,
+) -> Result<(), TextFault<'t>>
     requires { ⌜ Sound (state progress (tables (now rows))) ⌝ }
     ensures { λ r. ⌜ faulty r ≡ settled-by letter (state (progress .entry) (tables (now (rows .entry)))) ⌝ }
 {
@@ -47,14 +53,22 @@ fn settle_by<'t>(letter: Letter, progress: Progress<'t>, rows: &PlanRows) -> Res
     }
 }
 
-fn time_line<'t>(progress: Progress<'t>, rows: &PlanRows, line: Line<'t>, mut fields: Parts<'t>) -> Result<Progress<'t>, TextFault<'t>>
+fn time_line<'t>(
+    progress: Progress<'t>,
+    rows: &PlanRows,
+    line: Line<'t>,
+    mut fields: Parts<'t>,
+) -> Result<Progress<'t>, TextFault<'t>>
     ensures { λ r. ⌜ seen-state r (tables (now (rows .entry))) ≡ time-line (state (progress .entry) (tables (now (rows .entry)))) (line .entry .number) (place (line .entry .whole)) (ahead (fields .entry)) ⌝ }
 {
     let kind = line.next_field(&mut fields)?;
     let clocks = line.next_field(&mut fields)?;
     line.no_field(&mut fields)?;
     let kind = line.kind(kind)?;
-    line.demand(stands_at(Letter::Time, progress.phase, rows.positions.len()), Refusal::Order)?;
+    line.demand(
+        stands_at(Letter::Time, progress.phase, rows.positions.len()),
+        Refusal::Order,
+    )?;
     let clocks = line.number(3, clocks, 1, 8, Refusal::Number)?;
     Ok(Progress {
         phase: Phase::Positions,
@@ -64,7 +78,12 @@ fn time_line<'t>(progress: Progress<'t>, rows: &PlanRows, line: Line<'t>, mut fi
     })
 }
 
-fn position_line<'t>(progress: Progress<'t>, rows: &mut PlanRows, line: Line<'t>, mut fields: Parts<'t>) -> Result<Progress<'t>, TextFault<'t>>
+fn position_line<'t>(
+    progress: Progress<'t>,
+    rows: &mut PlanRows,
+    line: Line<'t>,
+    mut fields: Parts<'t>,
+) -> Result<Progress<'t>, TextFault<'t>>
     requires { ⌜ Sound (state progress (tables (now rows))) ⌝ }
     ensures answer { λ r. ⌜ seen-state r (tables (now (rows .exit))) ≡ position-line (state (progress .entry) (tables (now (rows .entry)))) (line .entry .number) (place (line .entry .whole)) (ahead (fields .entry)) ⌝ }
     ensures kept { λ r. ⌜ KeptBy r (tables (now (rows .exit))) (tables (now (rows .entry))) ⌝ }
@@ -72,14 +91,28 @@ fn position_line<'t>(progress: Progress<'t>, rows: &mut PlanRows, line: Line<'t>
 {
     let invariant = line.next_field(&mut fields)?;
     line.no_field(&mut fields)?;
-    line.demand(stands_at(Letter::Position, progress.phase, rows.positions.len()), Refusal::Order)?;
+    line.demand(
+        stands_at(Letter::Position, progress.phase, rows.positions.len()),
+        Refusal::Order,
+    )?;
     let invariant = line.clock_box(2, invariant, progress.clocks as u64)?;
-    let taken = take_row(&mut rows.positions, 64, Position { invariant: invariant.clock_box() });
+    let taken = take_row(
+        &mut rows.positions,
+        64,
+        Position {
+            invariant: invariant.clock_box(),
+        },
+    );
     line.demand(taken, Refusal::Rows)?;
     Ok(progress)
 }
 
-fn move_line<'t>(progress: Progress<'t>, rows: &mut PlanRows, line: Line<'t>, mut fields: Parts<'t>) -> Result<Progress<'t>, TextFault<'t>>
+fn move_line<'t>(
+    progress: Progress<'t>,
+    rows: &mut PlanRows,
+    line: Line<'t>,
+    mut fields: Parts<'t>,
+) -> Result<Progress<'t>, TextFault<'t>>
     requires { ⌜ Sound (state progress (tables (now rows))) ⌝ }
     ensures answer { λ r. ⌜ seen-state r (tables (now (rows .exit))) ≡ move-line (state (progress .entry) (tables (now (rows .entry)))) (line .entry .number) (place (line .entry .whole)) (ahead (fields .entry)) ⌝ }
     ensures kept { λ r. ⌜ KeptBy r (tables (now (rows .exit))) (tables (now (rows .entry))) ⌝ }
@@ -89,7 +122,10 @@ fn move_line<'t>(progress: Progress<'t>, rows: &mut PlanRows, line: Line<'t>, mu
     let guard = line.next_field(&mut fields)?;
     line.no_field(&mut fields)?;
     let known = rows.positions.len();
-    line.demand(stands_at(Letter::Move, progress.phase, known), Refusal::Order)?;
+    line.demand(
+        stands_at(Letter::Move, progress.phase, known),
+        Refusal::Order,
+    )?;
     let source = line.number(2, source, 1, known, Refusal::Name)?;
     let guard = line.clock_box(3, guard, progress.clocks as u64)?;
     let row = Move {
@@ -107,7 +143,12 @@ fn move_line<'t>(progress: Progress<'t>, rows: &mut PlanRows, line: Line<'t>, mu
     })
 }
 
-fn outcome_line<'t>(progress: Progress<'t>, rows: &mut PlanRows, line: Line<'t>, mut fields: Parts<'t>) -> Result<Progress<'t>, TextFault<'t>>
+fn outcome_line<'t>(
+    progress: Progress<'t>,
+    rows: &mut PlanRows,
+    line: Line<'t>,
+    mut fields: Parts<'t>,
+) -> Result<Progress<'t>, TextFault<'t>>
     requires { ⌜ Sound (state progress (tables (now rows))) ⌝ }
     ensures answer { λ r. ⌜ seen-state r (tables (now (rows .exit))) ≡ outcome-line (state (progress .entry) (tables (now (rows .entry)))) (line .entry .number) (place (line .entry .whole)) (ahead (fields .entry)) ⌝ }
     ensures kept { λ r. ⌜ KeptBy r (tables (now (rows .exit))) (tables (now (rows .entry))) ⌝ }
@@ -118,7 +159,10 @@ fn outcome_line<'t>(progress: Progress<'t>, rows: &mut PlanRows, line: Line<'t>,
     let resets = line.next_field(&mut fields)?;
     line.no_field(&mut fields)?;
     let known = rows.positions.len();
-    line.demand(stands_at(Letter::Outcome, progress.phase, known), Refusal::Order)?;
+    line.demand(
+        stands_at(Letter::Outcome, progress.phase, known),
+        Refusal::Order,
+    )?;
     let chance = line.number(2, chance, 0, 1000, Refusal::Number)?;
     let target = line.number(3, target, 1, known, Refusal::Name)?;
     let resets = line.clock_list(4, resets, progress.clocks as u64)?;
@@ -135,7 +179,12 @@ fn outcome_line<'t>(progress: Progress<'t>, rows: &mut PlanRows, line: Line<'t>,
     Ok(progress)
 }
 
-fn goal_line<'t>(progress: Progress<'t>, rows: &mut PlanRows, line: Line<'t>, mut fields: Parts<'t>) -> Result<Progress<'t>, TextFault<'t>>
+fn goal_line<'t>(
+    progress: Progress<'t>,
+    rows: &mut PlanRows,
+    line: Line<'t>,
+    mut fields: Parts<'t>,
+) -> Result<Progress<'t>, TextFault<'t>>
     requires { ⌜ Sound (state progress (tables (now rows))) ⌝ }
     ensures answer { λ r. ⌜ seen-state r (tables (now (rows .exit))) ≡ goal-line (state (progress .entry) (tables (now (rows .entry)))) (line .entry .number) (place (line .entry .whole)) (ahead (fields .entry)) ⌝ }
     ensures kept { λ r. ⌜ KeptBy r (tables (now (rows .exit))) (tables (now (rows .entry))) ⌝ }
@@ -145,7 +194,10 @@ fn goal_line<'t>(progress: Progress<'t>, rows: &mut PlanRows, line: Line<'t>, mu
     let area = line.next_field(&mut fields)?;
     line.no_field(&mut fields)?;
     let known = rows.positions.len();
-    line.demand(stands_at(Letter::Goal, progress.phase, known), Refusal::Order)?;
+    line.demand(
+        stands_at(Letter::Goal, progress.phase, known),
+        Refusal::Order,
+    )?;
     let position = line.number(2, position, 1, known, Refusal::Name)?;
     let area = line.clock_box(3, area, progress.clocks as u64)?;
     let row = Goal {
@@ -163,7 +215,11 @@ fn goal_line<'t>(progress: Progress<'t>, rows: &mut PlanRows, line: Line<'t>, mu
 }
 
 // One line: first the open move, then the line itself.
-pub fn read_line<'t>(progress: Progress<'t>, rows: &mut PlanRows, line: Line<'t>) -> Result<Progress<'t>, TextFault<'t>>
+pub fn read_line<'t>(
+    progress: Progress<'t>,
+    rows: &mut PlanRows,
+    line: Line<'t>,
+) -> Result<Progress<'t>, TextFault<'t>>
     requires sound { ⌜ Sound (state progress (tables (now rows))) ⌝ }
     requires placed { ⌜ line .whole .at + length (now (line .whole .bytes)) < 2 ^ 64 ⌝ }
     ensures answer { λ r. ⌜ seen-state r (tables (now (rows .exit))) ≡ stepped (state (progress .entry) (tables (now (rows .entry)))) (line .entry .number) (place (line .entry .whole)) ⌝ }
@@ -185,7 +241,11 @@ pub fn read_line<'t>(progress: Progress<'t>, rows: &mut PlanRows, line: Line<'t>
 }
 
 // A line with no end.
-pub fn torn_line<'t>(progress: Progress<'t>, rows: &PlanRows, line: Line<'t>) -> Result<Header, TextFault<'t>>
+pub fn torn_line<'t>(
+    progress: Progress<'t>,
+    rows: &PlanRows,
+    line: Line<'t>,
+) -> Result<Header, TextFault<'t>>
     requires sound { ⌜ Sound (state progress (tables (now rows))) ⌝ }
     requires placed { ⌜ line .whole .at + length (now (line .whole .bytes)) < 2 ^ 64 ⌝ }
     ensures { λ r. ⌜ faulty r ≡ torn-line (state (progress .entry) (tables (now (rows .entry)))) (line .entry .number) (place (line .entry .whole)) ⌝ }
@@ -198,12 +258,19 @@ pub fn torn_line<'t>(progress: Progress<'t>, rows: &PlanRows, line: Line<'t>) ->
 }
 
 // The end of the text, as the line after the last.
-pub fn finish<'t>(progress: Progress<'t>, rows: &PlanRows, end: Line<'t>) -> Result<Header, TextFault<'t>>
+pub fn finish<'t>(
+    progress: Progress<'t>,
+    rows: &PlanRows,
+    end: Line<'t>,
+) -> Result<Header, TextFault<'t>>
     requires sound { ⌜ Sound (state progress (tables (now rows))) ⌝ }
     ensures { λ r. ⌜ faulty r ≡ finished (state (progress .entry) (tables (now (rows .entry)))) (end .entry .number) (place (end .entry .whole)) ⌝ }
 {
     settle(progress, rows)?;
-    end.demand(stands_at(Letter::Goal, progress.phase, rows.positions.len()), Refusal::Order)?;
+    end.demand(
+        stands_at(Letter::Goal, progress.phase, rows.positions.len()),
+        Refusal::Order,
+    )?;
     Ok(Header {
         time: progress.time,
         clocks: progress.clocks,

@@ -26,7 +26,14 @@ impl<'t> Line<'t> {
     }
 
     // A number from `low` to `high`: Number where the field is no numeral, and `out` where the number lies outside.
-    pub fn number(self, field: usize, part: Part<'t>, low: usize, high: usize, out: Refusal) -> Result<Field<'t>, TextFault<'t>>
+    pub fn number(
+        self,
+        field: usize,
+        part: Part<'t>,
+        low: usize,
+        high: usize,
+        out: Refusal,
+    ) -> Result<Field<'t>, TextFault<'t>>
         requires { ⌜ high < 2 ^ 50 ⌝ }
         ensures { λ r. ⌜ seen-field r ≡ number-field low high out (self .entry .number) field (place (part .entry)) ⌝ }
     {
@@ -44,7 +51,12 @@ impl<'t> Line<'t> {
     }
 
     // Clocks from 1 to `known`, parted by commas, or `-` for none.
-    pub fn clock_list(self, field: usize, part: Part<'t>, known: u64) -> Result<Field<'t>, TextFault<'t>>
+    pub fn clock_list(
+        self,
+        field: usize,
+        part: Part<'t>,
+        known: u64,
+    ) -> Result<Field<'t>, TextFault<'t>>
         requires few { ⌜ known ≤ 8 ⌝ }
         requires placed { ⌜ part .at + length (now (part .bytes)) < 2 ^ 64 ⌝ }
         ensures { λ r. ⌜ seen-field r ≡ clocks-field known (self .entry .number) field (place (part .entry)) ⌝ }

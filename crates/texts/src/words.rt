@@ -131,7 +131,10 @@ impl<'t> Field<'t> {
         match self {
             Field::Bounds(b, _) => b,
             _ => ClockBox {
-                sides: [Side { lower: None, upper: None }; 8],
+                sides: [Side {
+                    lower: None,
+                    upper: None,
+                }; 8],
             },
         }
     }

@@ -9,6 +9,7 @@ pub returns-else-rest-gt0 : need.returns-else-rest-gt0
 returns-else-rest-gt0 c =
     bound-open (c .args .bytes .now) (c .up-to-sign-k .result) (c .up-to-sign-k .ensures .value) (c .if-k-bytes .left) _
     (elim (c .else-rest-gt0 .came) [
-      else-rest-gt0·by·then-rest-gt0·else-rest-eq61 w ↦ w .if-rest-eq61 .left
-    | else-rest-gt0·by·else-rest-gt0 w ↦ none-first _ (w .if-rest-gt0 .left) ])
+      | else-rest-gt0·by·then-rest-gt0·else-rest-eq61 w ↦ w .if-rest-eq61 .left
+      | else-rest-gt0·by·else-rest-gt0 w ↦ none-first _ (w .if-rest-gt0 .left)
+    ])
     (c .bound-of-else-rest-gt0 .ensures)

@@ -32,11 +32,12 @@ lines-again c =
     let t = state (c .in-Continue-progress .progress) (tables (c .read-line .last .rows)) in
     let l : c .line-number .result ≡ c .lines .reader .line + 1 = c .line-number .ensures ∙ c .in-Whole .ensures tt .count in
     let step : Ok t ≡ stepped s (c .line-number .result) (place (c .in-Whole .whole)) = c .in-Continue-progress .ensures tt .answer in
-    let on = go-on (lines-ahead (c .lines .reader)) (place (c .in-Whole .whole)) s t (c .lines .reader .line) (c .line-number .result) _ (c .in-Whole .ensures tt .answer) l step (c .lines .inv .1) in
-    (ap (λ x. x .now) (c .in-Whole .ensures tt .text) ∙ c .lines .inv .0,
-     (ap (λ x. run x t (c .next-line .last .self .line)) (c .in-Whole .ensures tt .rest) ∙ ap (run (rest-of (lines-ahead (c .lines .reader))) t) (sym (c .line-number .ensures))) ∙ on,
-     step-sound s t (c .line-number .result) (place (c .in-Whole .whole)) (c .lines .inv .2) step,
-     same-on _ _ _ (c .in-Continue-progress .ensures tt .same) (c .lines .inv .3))
+    let on = go-on (lines-ahead (c .lines .reader)) (place (c .in-Whole .whole)) s t (c .lines .reader .line) (c .line-number .result) _ (c .in-Whole .ensures tt .answer) l step (c .lines .inv .1) in (
+      ap (λ x. x .now) (c .in-Whole .ensures tt .text) ∙ c .lines .inv .0,
+      (ap (λ x. run x t (c .next-line .last .self .line)) (c .in-Whole .ensures tt .rest) ∙ ap (run (rest-of (lines-ahead (c .lines .reader))) t) (sym (c .line-number .ensures))) ∙ on,
+      step-sound s t (c .line-number .result) (place (c .in-Whole .whole)) (c .lines .inv .2) step,
+      same-on _ _ _ (c .in-Continue-progress .ensures tt .same) (c .lines .inv .3),
+    )
 
 pub returns-in-Torn : need.returns-in-Torn
 returns-in-Torn c =
@@ -63,11 +64,12 @@ lines-holds c =
     let t = tables (c .args .rows .now) in
     let is = c .begin-progress .ensures t in
     let made = c .new-reader .ensures in
-    let ahead = all-ahead (c .args .text .now) (c .new-reader .result .at) (c .new-reader .result .text .now) (made .text) (made .at) in
-    (made .text,
-     (λ i. run (ahead i) (is i) (made .line i)),
-     subst Sound (sym is) (c .pre .sound),
-     record { positions = refl; moves = refl; outcomes = refl; goals = refl })
+    let ahead = all-ahead (c .args .text .now) (c .new-reader .result .at) (c .new-reader .result .text .now) (made .text) (made .at) in (
+      made .text,
+      (λ i. run (ahead i) (is i) (made .line i)),
+      subst Sound (sym is) (c .pre .sound),
+      record { positions = refl; moves = refl; outcomes = refl; goals = refl },
+    )
 
 pub lines-less : need.lines-less
 lines-less c = rest-shorter (lines-ahead (c .lines .reader)) (lines-ahead (c .next-line .last .self)) (place (c .in-Whole .whole)) (c .in-Whole .ensures tt .answer) (c .in-Whole .ensures tt .rest)

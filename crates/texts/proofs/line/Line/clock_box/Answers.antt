@@ -22,16 +22,18 @@ pub returns-in-None : need.returns-in-None
 returns-in-None c =
     ap Err (c .field-fault .ensures) ∙ box-list (c .args .known) (c .args .self .number) (c .args .field) (place (c .args .part)) (Err Number)
     (elim (c .else-part-eq1 .came) [
-      else-part-eq1·by·then-part-eq1·else-part-eq45 w ↦ dash-other (c .args .part .bytes .now) (w .if-part-eq45 .left)
-    | else-part-eq1·by·else-part-eq1 w ↦ dash-long (c .args .part .bytes .now) (w .if-part-eq1 .left) ])
+      | else-part-eq1·by·then-part-eq1·else-part-eq45 w ↦ dash-other (c .args .part .bytes .now) (w .if-part-eq45 .left)
+      | else-part-eq1·by·else-part-eq1 w ↦ dash-long (c .args .part .bytes .now) (w .if-part-eq1 .left)
+    ])
     (sym (c .loop-item .inv .1) ∙ box-not (c .args .known) (c .loop-item .named) (c .loop-item .sides) (place (c .in-Some .item)) (ahead (c .loop-item .items)) (c .in-Some .ensures tt .first) (c .in-None .ensures tt))
 
 pub loop-item-again-then-m-known : need.loop-item-again-then-m-known
 loop-item-again-then-m-known c =
-    let t = tight-is (c .loop-item .sides) (c .in-Some-bound-in .m) (c .narrowed .result) (c .narrowed .ensures) in
-    (ap length t ∙ (tight-length (c .loop-item .sides) (c .in-Some-bound-in .m) ∙ c .loop-item .inv .0),
-     (λ i. box-from (c .args .known) (c .loop-item .named) (t i) (c .in-Some .ensures tt .rest i))
-     ∙ (sym (box-one (c .args .known) (c .loop-item .named) (c .loop-item .sides) (place (c .in-Some .item)) (ahead (c .loop-item .items)) (c .in-Some .ensures tt .first) (c .in-Some-bound-in .m) (c .in-Some-bound-in .ensures tt) (c .if-m-ge1 .taken) (c .if-m-known .taken)) ∙ c .loop-item .inv .1))
+    let t = tight-is (c .loop-item .sides) (c .in-Some-bound-in .m) (c .narrowed .result) (c .narrowed .ensures) in (
+      ap length t ∙ (tight-length (c .loop-item .sides) (c .in-Some-bound-in .m) ∙ c .loop-item .inv .0),
+      (λ i. box-from (c .args .known) (c .loop-item .named) (t i) (c .in-Some .ensures tt .rest i))
+          ∙ (sym (box-one (c .args .known) (c .loop-item .named) (c .loop-item .sides) (place (c .in-Some .item)) (ahead (c .loop-item .items)) (c .in-Some .ensures tt .first) (c .in-Some-bound-in .m) (c .in-Some-bound-in .ensures tt) (c .if-m-ge1 .taken) (c .if-m-known .taken)) ∙ c .loop-item .inv .1),
+    )
 
 pub loop-item-less-then-m-known : need.loop-item-less-then-m-known
 loop-item-less-then-m-known c = shorter (place (c .in-Some .item)) (ahead (c .loop-item .items)) (ahead (c .next .last .self)) (c .in-Some .ensures tt .first) (c .in-Some .ensures tt .rest)
@@ -39,24 +41,28 @@ loop-item-less-then-m-known c = shorter (place (c .in-Some .item)) (ahead (c .lo
 pub loop-item-again : need.loop-item-again
 loop-item-again c =
     let out : (1 ≤ c .in-Some-bound-in .m .clock) × (c .in-Some-bound-in .m .clock ≤ c .args .known) → ⊥ = λ h. elim (c .else-m-ge1 .came) [
-        else-m-ge1·by·then-m-ge1·else-m-known w ↦ omega (arith, w .if-m-known .left)
-      | else-m-ge1·by·else-m-ge1 w ↦ omega (arith, w .if-m-ge1 .left) ] in
-    (c .loop-item .inv .0,
-     ap (box-from (c .args .known) false (c .loop-item .sides)) (c .in-Some .ensures tt .rest)
-     ∙ (sym (box-out (c .args .known) (c .loop-item .named) (c .loop-item .sides) (place (c .in-Some .item)) (ahead (c .loop-item .items)) (c .in-Some .ensures tt .first) (c .in-Some-bound-in .m) (c .in-Some-bound-in .ensures tt) out) ∙ c .loop-item .inv .1))
+      | else-m-ge1·by·then-m-ge1·else-m-known w ↦ omega (arith, w .if-m-known .left)
+      | else-m-ge1·by·else-m-ge1 w ↦ omega (arith, w .if-m-ge1 .left)
+    ] in (
+      c .loop-item .inv .0,
+      ap (box-from (c .args .known) false (c .loop-item .sides)) (c .in-Some .ensures tt .rest)
+          ∙ (sym (box-out (c .args .known) (c .loop-item .named) (c .loop-item .sides) (place (c .in-Some .item)) (ahead (c .loop-item .items)) (c .in-Some .ensures tt .first) (c .in-Some-bound-in .m) (c .in-Some-bound-in .ensures tt) out) ∙ c .loop-item .inv .1),
+    )
 
 pub returns-then-named : need.returns-then-named
 returns-then-named c =
     box-list (c .args .known) (c .args .self .number) (c .args .field) (place (c .args .part)) (Ok (c .loop-item .sides))
     (elim (c .else-part-eq1 .came) [
-      else-part-eq1·by·then-part-eq1·else-part-eq45 w ↦ dash-other (c .args .part .bytes .now) (w .if-part-eq45 .left)
-    | else-part-eq1·by·else-part-eq1 w ↦ dash-long (c .args .part .bytes .now) (w .if-part-eq1 .left) ])
+      | else-part-eq1·by·then-part-eq1·else-part-eq45 w ↦ dash-other (c .args .part .bytes .now) (w .if-part-eq45 .left)
+      | else-part-eq1·by·else-part-eq1 w ↦ dash-long (c .args .part .bytes .now) (w .if-part-eq1 .left)
+    ])
     (sym (c .loop-item .inv .1) ∙ (box-end (c .args .known) (c .loop-item .named) (c .loop-item .sides) (ahead (c .loop-item .items)) (c .in-rest .ensures tt .first) ∙ cond-true _ _ _ (c .if-named .taken)))
 
 pub returns-else-named : need.returns-else-named
 returns-else-named c =
     ap Err (c .field-fault-else-named .ensures) ∙ box-list (c .args .known) (c .args .self .number) (c .args .field) (place (c .args .part)) (Err Name)
     (elim (c .else-part-eq1 .came) [
-      else-part-eq1·by·then-part-eq1·else-part-eq45 w ↦ dash-other (c .args .part .bytes .now) (w .if-part-eq45 .left)
-    | else-part-eq1·by·else-part-eq1 w ↦ dash-long (c .args .part .bytes .now) (w .if-part-eq1 .left) ])
+      | else-part-eq1·by·then-part-eq1·else-part-eq45 w ↦ dash-other (c .args .part .bytes .now) (w .if-part-eq45 .left)
+      | else-part-eq1·by·else-part-eq1 w ↦ dash-long (c .args .part .bytes .now) (w .if-part-eq1 .left)
+    ])
     (sym (c .loop-item .inv .1) ∙ (box-end (c .args .known) (c .loop-item .named) (c .loop-item .sides) (ahead (c .loop-item .items)) (c .in-rest .ensures tt .first) ∙ cond-false _ _ _ (c .if-named .left)))
