@@ -1,6 +1,7 @@
 -- The four lists of a plan, without the references.
 use mathlib.Core.Path.{_≡_}
 use mathlib.Core.Bool.{Bool, true, false, cond, _&&_}
+use mathlib.Core.List.{List}
 use Prim.Native.Nat.{ℕ, _+_}
 use lib.Dec.{ltb}
 use lib.ListN.{length}
@@ -20,6 +21,10 @@ pub record Tables : Type 0 where
 
 abbrev pub tables : PlanRows → Tables
 tables r = record { positions = kept (r .positions); moves = kept (r .moves); outcomes = kept (r .outcomes); goals = kept (r .goals) }
+
+-- lists over these rows that have taken none
+abbrev pub untaken : List Position → List Move → List Outcome → List Goal → Tables
+untaken ps vs os gs = record { positions = record { rows = ps; used = 0 }; moves = record { rows = vs; used = 0 }; outcomes = record { rows = os; used = 0 }; goals = record { rows = gs; used = 0 } }
 
 -- no row taken of any list
 abbrev pub none-taken : Tables → Tables

@@ -4,7 +4,7 @@ ghost use Prim.Native.Nat.{_+_, _*_, _^_, _≤_, _<_};
 ghost use lib.ListN.{length};
 ghost use denote.Ref.{now, name};
 ghost use Rattle.plans.specs.RowLists.{kept, put, move-row};
-ghost use Rattle.texts.specs.PlanRows.{has-room, put-within, open-sum, raised-open};
+ghost use Rattle.texts.specs.PlanRows.{tables, untaken, has-room, put-within, open-sum, raised-open};
 use plans::row_list::RowList;
 use plans::rows::Goal;
 use plans::rows::Move;
@@ -18,6 +18,29 @@ pub struct PlanRows<'a> {
     pub moves: RowList<'a, Move>,
     pub outcomes: RowList<'a, Outcome>,
     pub goals: RowList<'a, Goal>,
+}
+
+impl<'a> PlanRows<'a> {
+    // Lists that have taken none of these rows.
+    pub fn over(
+        positions: &'a mut [Position],
+        moves: &'a mut [Move],
+        outcomes: &'a mut [Outcome],
+        goals: &'a mut [Goal],
+    ) -> PlanRows<'a>
+        ensures { λ r. ⌜ tables r ≡ untaken (now (positions .entry)) (now (moves .entry)) (now (outcomes .entry)) (now (goals .entry)) ⌝ }
+    {
+        let positions = RowList::new(positions);
+        let moves = RowList::new(moves);
+        let outcomes = RowList::new(outcomes);
+        let goals = RowList::new(goals);
+        PlanRows {
+            positions,
+            moves,
+            outcomes,
+            goals,
+        }
+    }
 }
 
 // Takes one row more, if the list has fewer than `limit` and another is supplied, and answers whether it did.
