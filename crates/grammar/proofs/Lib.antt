@@ -1,0 +1,11 @@
+pub mod BoxSpelling
+pub mod ClockSpelling
+pub mod Standing
+pub mod Back
+pub mod Forth
+pub mod TextRuns
+pub mod RowsPut
+pub mod ShapeLeads
+pub mod ShapeFound
+pub mod Accepted
+pub mod FineRows

@@ -1,0 +1,4 @@
+pub mod BoxesWritten
+pub mod Written
+pub mod Grammar
+pub mod Tables

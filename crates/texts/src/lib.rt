@@ -1,0 +1,11 @@
+mod boxes;
+pub mod fault;
+pub mod field;
+mod line;
+mod lines;
+mod numbers;
+pub mod plan_rows;
+pub mod plan_text;
+pub mod progress;
+mod reader;
+mod words;
