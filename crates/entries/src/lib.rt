@@ -1,4 +1,5 @@
 pub mod clock_count;
 pub mod entry;
 mod places;
+mod reading;
 mod written;
