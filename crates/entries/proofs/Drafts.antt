@@ -1,25 +1,27 @@
 -- The fields of a line
 use mathlib.Core.Path.{_≡_, refl, sym, ap, subst, _∙_}
 use mathlib.Core.List.{List, [], _∷_, _++_}
-use mathlib.Core.Bool.{true, not}
+use mathlib.Core.Bool.{true, false, not}
+use borrow.Author.Tests.{eq-eqb}
+use Rattle.std.proofs.shelf.Lists.{take-at}
 use Prim.Native.Nat.{ℕ, suc, _+_, _-_, _/_, _%_, _^_, _<_, _≤_, min}
 use native.Mathlib.Omega.{arith}
 use lib.Dec.{eqb}
-use lib.ListN.{length, getD, replicate}
+use lib.ListN.{length, getD, take, replicate}
 use Rattle.std.specs.Written.{decimal}
 use Rattle.std.specs.declared.option.Option.{Option}
 use Rattle.std.specs.declared.option.Option.the-variants.{Some, None}
-use Rattle.std.proofs.shelf.Tests.{and-from}
+use Rattle.std.proofs.shelf.Tests.{and-from, and-parts}
 use Rattle.bounds.specs.Bounds.{UpperBound}
 use Rattle.bounds.specs.Sums.{bound-of}
 use Rattle.zones.specs.Codes.{Sound, at}
 use Rattle.zones.proofs.Props.{sound}
 use Rattle.bytes.specs.Numerals.{number-to}
-use Rattle.bytes.specs.Parts.{Place, parted, head-place, tail-places, within}
+use Rattle.bytes.specs.Parts.{Place, parted, head-place, tail-places, within, up-to}
 use Rattle.bytes.proofs.Spelling.{number-back, lacks, lacks-append, lacks-decimal, parted-mark, parted-end}
 use Rattle.entries.specs.declared.entry.Entry.{Entry}
 use Rattle.entries.specs.Entries.{IsEntry}
-use Rattle.entries.specs.Lines.{seen, items, commas, body}
+use Rattle.entries.specs.Lines.{seen, items, commas, body, line}
 use Rattle.entries.specs.Reading.{bounds-from}
 use Rattle.entries.proofs.Short.{Reach, zone-reach}
 use Rattle.entries.proofs.Trips.{commas-lack, bounds-back}
@@ -114,3 +116,20 @@ module _ (n : ℕ) (e : Entry) (bs : List ℕ) (a0 a1 a2 a3 : List Place) (new :
 
   pub head-3 : a2 ≡ tail-places a1 → a3 ≡ tail-places a2 → head-place a3 ≡ Some (walk .p3)
   head-3 r2 r3 = ap head-place (r3 ∙ ap tail-places (r2 ∙ ap tail-places r1)) ∙ ap (λ (l : List Place). head-place (tail-places (tail-places (tail-places l)))) (walk .are)
+
+up-to-mark : (b : ℕ) (xs ys : List ℕ) → lacks b xs ≡ true → up-to b (xs ++ (b ∷ ys)) ≡ length xs
+up-to-mark b [] ys h = let e = eq-eqb b b refl in rw e
+up-to-mark b (x ∷ xs) ys h =
+    let p = and-parts (not (eqb x b)) (lacks b xs) h in
+    let q = p .0 in
+    let e : eqb x b ≡ false = grind arith in
+    let more = up-to-mark b xs ys (p .1) in
+    rw (e, more)
+
+-- what stands before the first byte that ends a line
+pub body-front : (n : ℕ) (f : Entry) → IsEntry n f → (bs : List ℕ) (end : ℕ) → end ≡ up-to 10 bs → line n f ≡ bs → take (end - 0) bs ≡ body n f
+unfolding line
+body-front n f is bs end h e =
+    let u = h ∙ ap (up-to 10) (sym e) ∙ up-to-mark 10 (body n f) [] (body-lacks n f is) in
+    let z : end - 0 ≡ length (body n f) = omega (arith, u) in
+    (λ i. take (z i) (sym e i)) ∙ take-at (body n f) (10 ∷ []) (length (body n f)) refl

@@ -6,3 +6,4 @@ pub mod Short
 pub mod Trips
 pub mod ReadSteps
 pub mod Drafts
+pub mod Same

@@ -2,3 +2,4 @@ pub mod Entries
 pub mod Lines
 pub mod Adding
 pub mod Reading
+pub mod Finding
