@@ -2,7 +2,7 @@
 use mathlib.Core.Path.{_≡_}
 use mathlib.Core.List.{List}
 use mathlib.Core.Bool.{Bool, true, false, cond}
-use Prim.Native.Nat.{ℕ, _+_, _*_, _≤_, _<_}
+use Prim.Native.Nat.{ℕ, _+_, _*_, _^_, _≤_, _<_}
 use lib.Dec.{eqb, leb}
 use lib.ListN.{length, getD}
 use lib.IntN.{ℤ}
@@ -20,10 +20,11 @@ use Rattle.entries.specs.declared.entry.Entry.{Entry}
 abbrev pub AsksNothing : ℕ → List Code → Type 0
 AsksNothing n xs = (D : ℕ) (v w : ℕ → ℤ) → 1 ≤ D → Readings v → Readings w → ((k : ℕ) → k ≤ n → w k ≡ v k) → Holds (at xs) D v → Holds (at xs) D w
 
--- an entry for n clocks
+-- an entry for n clocks; its round has 64 bits and its zone 81 places, as the program holds them
 pub record IsEntry (n : ℕ) (e : Entry) : Type 0 where
   pub low : 1 ≤ e .position
   pub high : e .position ≤ 64
+  pub fits : e .round < 2 ^ 64
   pub places : length (e .zone .codes) ≡ 81
   pub asks : AsksNothing n (e .zone .codes)
 

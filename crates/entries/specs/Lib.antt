@@ -1,3 +1,5 @@
 pub mod Entries
 pub mod Lines
 pub mod Adding
+pub mod Reading
+pub mod Finding

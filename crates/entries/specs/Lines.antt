@@ -61,10 +61,10 @@ body n e = 90 ∷ 9 ∷ (decimal (e .position) ++ (9 ∷ (decimal (e .round) ++ 
 unfoldable pub line : ℕ → Entry → List ℕ
 line n e = body n e ++ (10 ∷ [])
 
--- the line that was put together, or that it is longer than a line may be
+-- the line was put together; no entry's line is too long for that
 abbrev pub LineSays : List ℕ → Result Line Refusal → Type 0
 LineSays ds (Ok l) = text l ≡ ds
-LineSays ds (Err e) = (e ≡ refused.Buffer) × (1200 < length ds)
+LineSays ds (Err e) = ⊥
 
 -- the entry whose line the bytes are, or Line where they are no entry's
 pub record Read (n : ℕ) (bs : List ℕ) (e : Entry) : Type 0 where

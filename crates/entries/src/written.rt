@@ -85,9 +85,9 @@ fn seen_bound(zone: &Zone, count: usize, p: usize) -> Option<Bound>
 }
 
 impl Entry {
-    // The entry's line for so many clocks.
-    fn line(&self, clocks: ClockCount) -> Result<Line, Refusal>
-        ensures { λ r. ⌜ LineSays (line (clocks .count) (now (self .entry))) r ⌝ }
+    // The entry's line for so many clocks. It is never refused.
+    pub fn line(self, clocks: ClockCount) -> Result<Line, Refusal>
+        ensures { λ r. ⌜ LineSays (line (clocks .count) self) r ⌝ }
     {
         let mut line = Line::new();
         line.word(b"Z\t")?;
