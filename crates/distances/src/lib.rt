@@ -1,1 +1,2 @@
 mod cover;
+mod turns;
