@@ -18,9 +18,10 @@ use Rattle.bounds.specs.declared.refusal.Refusal.{Refusal}
 use Rattle.bounds.specs.declared.refusal.Refusal.the-variants as refused
 use Rattle.bounds.specs.Bounds.{UpperBound, none, upto, level, Meets}
 use Rattle.bounds.specs.Laws.{times-is}
+use Rattle.bounds.specs.Domains.{Lawful}
 use Rattle.zones.specs.declared.codes.Code.{Code}
 use Rattle.zones.specs.declared.zone.Zone.{Zone}
-use Rattle.zones.specs.Codes.{at}
+use Rattle.zones.specs.Codes.{at, decode, code-of}
 use Rattle.zones.specs.Matrices.{Holds, Readings}
 use Rattle.plans.specs.Meaning.{PlanMeaning, WellFormed}
 use Rattle.entries.specs.declared.entry.Entry.{Entry}
@@ -80,6 +81,10 @@ is-entry M formed n q e f = record {
   asks = asks-nothing n (e .zone .codes) (f .zone .codes) (subst (λ m. Unasked m (at (e .zone .codes))) (sym q) (f .zone .unasked));
 }
 
+-- the plan's time domain is the one that it gives
+pub lawful-of : (M : PlanMeaning) (allows : ℕ → Bool) (normal : UpperBound → UpperBound) → allows ≡ M .allows → normal ≡ M .normal → Lawful allows normal → Lawful (M .allows) (M .normal)
+lawful-of M allows normal e f K = subst (λ n. Lawful (M .allows) n) f (subst (λ a. Lawful a normal) e K)
+
 -- ---- the ways of one start
 rows-push : (es : List Entry) (e : Entry) → rows (es ++ (e ∷ [])) ≡ rows es ++ (row e ∷ [])
 rows-push [] e = refl
@@ -88,13 +93,13 @@ rows-push (x ∷ es) e = ap (λ rs. row x ∷ rs) (rows-push es e)
 pub zones-of : (M : PlanMeaning) (n : ℕ) (es : List Entry) (normal : UpperBound → UpperBound) → normal ≡ M .normal → Ready M n es → Zones normal es
 zones-of M n es normal q r k h = record {
   codes = r .fits k h .zone .codes;
-  of-domain = subst (λ f. (p : ℕ) → p < 81 → f (Rattle.zones.specs.Codes.decode (Rattle.zones.specs.Codes.code-of (entry-at (rows es) k .zone) p)) ≡ Rattle.zones.specs.Codes.decode (Rattle.zones.specs.Codes.code-of (entry-at (rows es) k .zone) p)) (sym q) (r .fits k h .zone .of-domain);
+  of-domain = subst (λ f. (p : ℕ) → p < 81 → f (decode (code-of (entry-at (rows es) k .zone) p)) ≡ decode (code-of (entry-at (rows es) k .zone) p)) (sym q) (r .fits k h .zone .of-domain);
 }
 
 pub zone-of : (M : PlanMeaning) (f p : ℕ) (z : List Code) (normal : UpperBound → UpperBound) → normal ≡ M .normal → EntryOf M (record { position = p; round = f; zone = z }) → ZoneOf normal z
 zone-of M f p z normal q e = record {
   codes = e .zone .codes;
-  of-domain = subst (λ g. (k : ℕ) → k < 81 → g (Rattle.zones.specs.Codes.decode (Rattle.zones.specs.Codes.code-of z k)) ≡ Rattle.zones.specs.Codes.decode (Rattle.zones.specs.Codes.code-of z k)) (sym q) (e .zone .of-domain);
+  of-domain = subst (λ g. (k : ℕ) → k < 81 → g (decode (code-of z k)) ≡ decode (code-of z k)) (sym q) (e .zone .of-domain);
 }
 
 module _ (M : PlanMeaning) (formed : WellFormed M) (n : ℕ) (need : Entry → ℕ) (f p : ℕ) (es : List Entry) (m : ℕ) (need′ : Row → ℕ) (agrees : Agrees need′ need) (ready : Ready M n es) where

@@ -1,9 +1,11 @@
 ghost use mathlib.Core.Path.{_≡_};
-ghost use Rattle.distances.specs.Turns.{OfferSays};
+ghost use Rattle.distances.specs.Turns.{OfferSays, GoalSays, CrossSays, RoundSays};
 use crate::cover::is_covered;
 use bounds::refusal::Refusal;
 use entries::entry::Entry;
 use plans::plan::Plan;
+use starts::starts::goal_zone;
+use starts::starts::step_zone;
 use stores::store::Store;
 use zones::zone::Zone;
 
@@ -34,5 +36,70 @@ fn offer<P: Plan, S: Store>(
                 })
             }
         },
+    }
+}
+
+// What goal k, from 0, starts.
+fn from_goal<P: Plan, S: Store>(plan: &P, store: &mut S, k: usize) -> Result<(), Refusal>
+    ensures says { λ r. ⌜ GoalSays (P·Plan .meaning (now (plan .entry))) (S·Store .dimension (now (store .entry))) (S·Store .need (S·Store .dimension (now (store .entry)))) k (S·Store .entries (now (store .entry))) (S·Store .room (now (store .entry))) r (S·Store .entries (now (store .exit))) (S·Store .room (now (store .exit))) ⌝ }
+    ensures clocks { λ _. ⌜ S·Store .dimension (now (store .exit)) ≡ S·Store .dimension (now (store .entry)) ⌝ }
+{
+    if k >= plan.goals() {
+        return Ok(());
+    }
+    match plan.goal(k + 1) {
+        Err(why) => Err(why),
+        Ok(goal) => {
+            let left = goal_zone(plan, &goal);
+            offer(plan, store, 0, goal.position, left)
+        }
+    }
+}
+
+// Round 0: each goal in order.
+fn first_round<P: Plan, S: Store>(plan: &P, store: &mut S) -> Result<(), Refusal>
+    ensures says { λ r. ⌜ RoundSays (P·Plan .meaning (now (plan .entry))) (S·Store .dimension (now (store .entry))) (S·Store .need (S·Store .dimension (now (store .entry)))) 0 (S·Store .entries (now (store .entry))) (S·Store .room (now (store .entry))) r (S·Store .entries (now (store .exit))) (S·Store .room (now (store .exit))) ⌝ }
+    ensures clocks { λ _. ⌜ S·Store .dimension (now (store .exit)) ≡ S·Store .dimension (now (store .entry)) ⌝ }
+{
+    for k in 0..plan.goals() {
+        match from_goal(plan, store, k) {
+            Ok(_) => {}
+            Err(why) => return Err(why),
+        }
+    }
+    Ok(())
+}
+
+// What the entry starts by outcome k, from 0.
+fn cross<P: Plan, S: Store>(
+    plan: &P,
+    store: &mut S,
+    round: u64,
+    entry: &Entry,
+    k: usize,
+) -> Result<(), Refusal>
+    ensures says { λ r. ⌜ CrossSays (P·Plan .meaning (now (plan .entry))) (S·Store .dimension (now (store .entry))) (S·Store .need (S·Store .dimension (now (store .entry)))) round (now (entry .entry)) k (S·Store .entries (now (store .entry))) (S·Store .room (now (store .entry))) r (S·Store .entries (now (store .exit))) (S·Store .room (now (store .exit))) ⌝ }
+    ensures clocks { λ _. ⌜ S·Store .dimension (now (store .exit)) ≡ S·Store .dimension (now (store .entry)) ⌝ }
+{
+    if k >= plan.outcomes() {
+        return Ok(());
+    }
+    match plan.outcome(k + 1) {
+        Err(why) => Err(why),
+        Ok(outcome) => {
+            if outcome.chance < 1 {
+                return Ok(());
+            }
+            if outcome.target != entry.position {
+                return Ok(());
+            }
+            match plan.move_at(outcome.cause) {
+                Err(why) => Err(why),
+                Ok(cause) => {
+                    let left = step_zone(plan, &cause, &outcome, entry.zone);
+                    offer(plan, store, round, cause.source, left)
+                }
+            }
+        }
     }
 }
