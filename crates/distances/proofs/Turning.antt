@@ -181,3 +181,14 @@ outcomes-more M e i h = at-drop-more (joined (across M e)) (M .outcomes) i no-ou
 
 pub outcomes-all : (M : PlanMeaning) (e : Row) (i : ℕ) → length (M .outcomes) ≤ i → outcomes-left M e i ≡ []
 outcomes-all M e i h = at-drop-all (joined (across M e)) (M .outcomes) i h
+
+module _ (M : PlanMeaning) (need : ℕ → Entry → ℕ) (n₀ : ℕ) (es₀ : List Entry) (m₀ i : ℕ) where
+
+  pub first-on : i < length (M .goals) → (n : ℕ) (es : List Entry) (m : ℕ) → FirstLoop M need n₀ es₀ m₀ i n es m → (n′ : ℕ) → n′ ≡ n → (u : Unit {0}) (fs : List Entry) (k : ℕ) → GoalSays M n (need n) i es m (Ok u) fs k → FirstLoop M need n₀ es₀ m₀ (i + 1) n′ fs k
+  first-on h n es m l n′ q u fs k s = loop-on M need n₀ es₀ 0 (λ need′. round M need′ 0 (rows es₀) m₀) (goals-left M i) (goal-start M (goal-at M i) ∷ []) (goals-left M (i + 1)) (goals-more M i h) n es m l n′ q u fs k (s h)
+
+  pub first-off : i < length (M .goals) → (n : ℕ) (es : List Entry) (m : ℕ) → FirstLoop M need n₀ es₀ m₀ i n es m → (e : Refusal) (fs : List Entry) (k : ℕ) → GoalSays M n (need n) i es m (Err e) fs k → RoundSays M n₀ (need n₀) 0 es₀ m₀ (Err e) fs k
+  first-off h n es m l e fs k s = loop-off M need n₀ es₀ 0 (λ need′. round M need′ 0 (rows es₀) m₀) (goals-left M i) (goal-start M (goal-at M i) ∷ []) (goals-left M (i + 1)) (goals-more M i h) n es m l e fs k (s h)
+
+  pub first-end : length (M .goals) ≤ i → (n : ℕ) (es : List Entry) (m : ℕ) → FirstLoop M need n₀ es₀ m₀ i n es m → (u : Unit {0}) → RoundSays M n₀ (need n₀) 0 es₀ m₀ (Ok u) es m
+  first-end h n es m l u = loop-end M need n₀ es₀ 0 (λ need′. round M need′ 0 (rows es₀) m₀) (goals-left M i) (goals-all M i h) n es m l u
