@@ -31,11 +31,12 @@ use Rattle.rounds.specs.Rounds.Turn.{done, full, range}
 use Rattle.rounds.specs.Stands.{EntryOf}
 use Rattle.rounds.proofs.Laws.{Laws, laws}
 use Rattle.rounds.proofs.Zones.{Arriving, Crossing, goal-exact, step-exact}
-use Rattle.rounds.proofs.Loops.{tries-append, tries-none, tries-one}
+use Rattle.rounds.proofs.Loops.{tries-append, tries-none, tries-one, tries-begins}
 use Rattle.starts.specs.Told.{Tells}
 use Rattle.starts.specs.Starts.{GoalOf, StepOf, GoalTells, StepTells}
 use Rattle.starts.proofs.Starting.{item-is}
 use Rattle.distances.specs.Rows.{row, rows}
+use Rattle.distances.proofs.Covering.{many-rows, row-read}
 use Rattle.distances.specs.Turns.{Ends, Ready, Agrees, StartFits, Turned, OfferSays, TriesSays, RoundSays, GoalSays, CrossSays, AcrossSays, AfterSays}
 
 start-fits : (M : PlanMeaning) (S : ℕ → (ℕ → ℕ) → Type 0) (f p : ℕ) → Names (length (M .positions)) p → (o : Remains) → Exact M S o → StartFits M f p o
@@ -192,3 +193,108 @@ module _ (M : PlanMeaning) (need : ℕ → Entry → ℕ) (n₀ : ℕ) (es₀ : 
 
   pub first-end : length (M .goals) ≤ i → (n : ℕ) (es : List Entry) (m : ℕ) → FirstLoop M need n₀ es₀ m₀ i n es m → (u : Unit {0}) → RoundSays M n₀ (need n₀) 0 es₀ m₀ (Ok u) es m
   first-end h n es m l u = loop-end M need n₀ es₀ 0 (λ need′. round M need′ 0 (rows es₀) m₀) (goals-left M i) (goals-all M i h) n es m l u
+
+-- ---- a later round
+starts-next : (M : PlanMeaning) (rs : List Row) (f g : ℕ) → f ≡ suc g → joined (after M g) rs ≡ starts M f rs
+unfolding starts
+starts-next M rs f g q = sym (ap (λ x. starts M x rs) q)
+
+round-next : (M : PlanMeaning) (need′ : Row → ℕ) (f g : ℕ) (rs : List Row) (m : ℕ) → f ≡ g + 1 → tries need′ f (joined (after M g) rs) rs m ≡ round M need′ f rs m
+unfolding round
+round-next M need′ f g rs m q = ap (λ cs. tries need′ f cs rs m) (starts-next M rs f g (omega arith))
+
+-- ---- the outcomes of one entry
+pub record AcrossLoop (M : PlanMeaning) (need : ℕ → Entry → ℕ) (n₀ : ℕ) (es₀ : List Entry) (m₀ f : ℕ) (e : Entry) (i n : ℕ) (es : List Entry) (m : ℕ) : Type 0 where
+  pub clocks : n ≡ n₀
+  pub loop : EntryOf M (row e) → Loop M need n₀ es₀ f (λ need′. tries need′ f (outcomes-left M (row e) 0) (rows es₀) m₀) (outcomes-left M (row e) i) n es m
+
+pub across-begins : (M : PlanMeaning) (need : ℕ → Entry → ℕ) (n : ℕ) (es : List Entry) (m f : ℕ) (e : Entry) → AcrossLoop M need n es m f e 0 n es m
+across-begins M need n es m f e = record { clocks = refl; loop = λ of. record { clocks = refl; goes = λ need′ a r. record { left = refl; ready = r } } }
+
+module _ (M : PlanMeaning) (need : ℕ → Entry → ℕ) (n₀ : ℕ) (es₀ : List Entry) (m₀ f : ℕ) (e : Entry) (i n : ℕ) (es : List Entry) (m : ℕ) (l : AcrossLoop M need n₀ es₀ m₀ f e i n es m) where
+  pub across-on : i < length (M .outcomes) → (n′ : ℕ) → n′ ≡ n → (u : Unit {0}) (fs : List Entry) (k : ℕ) → CrossSays M n (need n) f e i es m (Ok u) fs k → AcrossLoop M need n₀ es₀ m₀ f e (i + 1) n′ fs k
+  across-on h n′ q u fs k s = record {
+    clocks = q ∙ l .clocks;
+    loop = λ of. loop-on M need n₀ es₀ f (λ need′. tries need′ f (outcomes-left M (row e) 0) (rows es₀) m₀) (outcomes-left M (row e) i) (across M (row e) (outcome-at M i)) (outcomes-left M (row e) (i + 1)) (outcomes-more M (row e) i h) n es m (l .loop of) n′ q u fs k (s h of);
+  }
+
+  pub across-off : i < length (M .outcomes) → (w : Refusal) (fs : List Entry) (k : ℕ) → CrossSays M n (need n) f e i es m (Err w) fs k → AcrossSays M n₀ (need n₀) f e es₀ m₀ (Err w) fs k
+  across-off h w fs k s of = loop-off M need n₀ es₀ f (λ need′. tries need′ f (outcomes-left M (row e) 0) (rows es₀) m₀) (outcomes-left M (row e) i) (across M (row e) (outcome-at M i)) (outcomes-left M (row e) (i + 1)) (outcomes-more M (row e) i h) n es m (l .loop of) w fs k (s h of)
+
+  pub across-end : length (M .outcomes) ≤ i → (u : Unit {0}) → AcrossSays M n₀ (need n₀) f e es₀ m₀ (Ok u) es m
+  across-end h u of = loop-end M need n₀ es₀ f (λ need′. tries need′ f (outcomes-left M (row e) 0) (rows es₀) m₀) (outcomes-left M (row e) i) (outcomes-all M (row e) i h) n es m (l .loop of) u
+
+-- ---- one entry
+module _ (M : PlanMeaning) (n : ℕ) (need : Entry → ℕ) (es : List Entry) (m f g j : ℕ) (e : Entry) (i : Item es (j + 1) (Ok e)) where
+  pub other-round : (e .round ≡ g → ⊥) → (u : Unit {0}) → AfterSays M n need f g j es m (Ok u) es m
+  unfolding after
+  other-round d u h need′ a r = record {
+    ends = ap (λ x. tries need′ f (after M g x) (rows es) m) (row-read es j e h i)
+      ∙ ap (λ cs. tries need′ f cs (rows es) m) (cond-false (eqb (e .round) g) (joined (across M (row e)) (M .outcomes)) [] (ne-eqb (e .round) g d)) ∙ tries-none need′ f (rows es) m;
+    ready = r;
+  }
+
+  pub this-round : e .round ≡ g → (r : Result (Unit {0}) Refusal) (fs : List Entry) (k : ℕ) → AcrossSays M n need f e es m r fs k → AfterSays M n need f g j es m r fs k
+  unfolding after
+  this-round q r fs k s h need′ a ready =
+    subst (λ x. Turned M n (tries need′ f (after M g x) (rows es) m) r fs k) (sym (row-read es j e h i))
+    (subst (λ cs. Turned M n (tries need′ f cs (rows es) m) r fs k) (sym (cond-true (eqb (e .round) g) (joined (across M (row e)) (M .outcomes)) [] (eq-eqb (e .round) g q)))
+    (s (subst (EntryOf M) (row-read es j e h i) (ready .fits j h)) need′ a ready))
+
+-- ---- the entries of the last round
+abbrev pub entries-left : PlanMeaning → ℕ → List Entry → ℕ → List Start
+entries-left M g es₀ i = joined (after M g) (drop i (rows es₀))
+
+-- the entries before are still there
+abbrev pub Begins : List Entry → List Entry → Type 0
+Begins es₀ es = (k : ℕ) → k < length (rows es₀) → (k < length (rows es)) × (entry-at (rows es) k ≡ entry-at (rows es₀) k)
+
+pub record NextLoop (M : PlanMeaning) (need : ℕ → Entry → ℕ) (n₀ : ℕ) (es₀ : List Entry) (m₀ f g i n : ℕ) (es : List Entry) (m : ℕ) : Type 0 where
+  pub clocks : n ≡ n₀
+  pub goes : (need′ : Row → ℕ) → Agrees need′ (need n₀) → Ready M n₀ es₀ → Going M n₀ f need′ (tries need′ f (entries-left M g es₀ 0) (rows es₀) m₀) (entries-left M g es₀ i) es m × Begins es₀ es
+
+pub next-begins : (M : PlanMeaning) (need : ℕ → Entry → ℕ) (n : ℕ) (es : List Entry) (m f g : ℕ) → NextLoop M need n es m f g 0 n es m
+next-begins M need n es m f g = record { clocks = refl; goes = λ need′ a r. (record { left = refl; ready = r }, λ k h. (h, refl)) }
+
+module _ (M : PlanMeaning) (need : ℕ → Entry → ℕ) (n₀ : ℕ) (es₀ : List Entry) (m₀ f g i n : ℕ) (es : List Entry) (m : ℕ) (l : NextLoop M need n₀ es₀ m₀ f g i n es m) where
+  entries-more : i < length es₀ → entries-left M g es₀ i ≡ after M g (entry-at (rows es₀) i) ++ entries-left M g es₀ (i + 1)
+  entries-more h = at-drop-more (joined (after M g)) (rows es₀) i no-entry (omega (arith, many-rows es₀))
+
+  module _ (h : i < length es₀) (need′ : Row → ℕ) (a : Agrees need′ (need n₀)) (r0 : Ready M n₀ es₀) where
+    old : (i < length es) × (entry-at (rows es) i ≡ entry-at (rows es₀) i)
+    old = let b = l .goes need′ a r0 .1 i (omega (arith, many-rows es₀)) in (omega (arith, b .0, many-rows es), b .1)
+
+    part-of : (r : Result (Unit {0}) Refusal) (fs : List Entry) (k : ℕ) → AfterSays M n (need n) f g i es m r fs k → Turned M n₀ (tries need′ f (after M g (entry-at (rows es₀) i)) (rows es) m) r fs k
+    part-of r fs k s = subst (λ x. Turned M n₀ (tries need′ f (after M g x) (rows es) m) r fs k) (old .1)
+      (subst (λ x. AfterSays M x (need x) f g i es m r fs k) (l .clocks) s (old .0) need′ a (l .goes need′ a r0 .0 .ready))
+
+    cut : tries need′ f (entries-left M g es₀ i) (rows es) m ≡ onward (tries need′ f (after M g (entry-at (rows es₀) i)) (rows es) m) (tries need′ f (entries-left M g es₀ (i + 1)))
+    cut = ap (λ ds. tries need′ f ds (rows es) m) (entries-more h) ∙ tries-append need′ f (after M g (entry-at (rows es₀) i)) (entries-left M g es₀ (i + 1)) (rows es) m
+
+  pub next-on : i < length es₀ → (n′ : ℕ) → n′ ≡ n → (u : Unit {0}) (fs : List Entry) (k : ℕ) → AfterSays M n (need n) f g i es m (Ok u) fs k → NextLoop M need n₀ es₀ m₀ f g (i + 1) n′ fs k
+  next-on h n′ q u fs k s = record {
+    clocks = q ∙ l .clocks;
+    goes = λ need′ a r0.
+      let t = part-of h need′ a r0 (Ok u) fs k s in
+      let w = l .goes need′ a r0 in
+      (record { left = ap (λ y. onward y (tries need′ f (entries-left M g es₀ (i + 1)))) (sym (t .ends)) ∙ sym (cut h need′ a r0) ∙ w .0 .left; ready = t .ready },
+       λ j b. let x = tries-begins need′ f (after M g (entry-at (rows es₀) i)) (rows es) m (rows fs) k (sym (t .ends)) j (w .1 j b .0) in (x .0, x .1 ∙ w .1 j b .1));
+  }
+
+  pub next-off : i < length es₀ → (e : Refusal) (fs : List Entry) (k : ℕ) → AfterSays M n (need n) f g i es m (Err e) fs k → f ≡ g + 1 → RoundSays M n₀ (need n₀) f es₀ m₀ (Err e) fs k
+  next-off h e fs k s q need′ a r0 =
+    let t = part-of h need′ a r0 (Err e) fs k s in
+    record {
+      ends = ends-off (tries need′ f (after M g (entry-at (rows es₀) i)) (rows es) m) (round M need′ f (rows es₀) m₀) (tries need′ f (entries-left M g es₀ (i + 1))) e (rows fs) k (t .ends)
+        (sym (cut h need′ a r0) ∙ l .goes need′ a r0 .0 .left ∙ round-next M need′ f g (rows es₀) m₀ q);
+      ready = t .ready;
+    }
+
+  pub next-end : length es₀ ≤ i → (u : Unit {0}) → f ≡ g + 1 → RoundSays M n₀ (need n₀) f es₀ m₀ (Ok u) es m
+  next-end h u q need′ a r0 =
+    let w = l .goes need′ a r0 in
+    record {
+      ends = sym (round-next M need′ f g (rows es₀) m₀ q) ∙ sym (w .0 .left)
+        ∙ ap (λ cs. tries need′ f cs (rows es) m) (at-drop-all (joined (after M g)) (rows es₀) i (omega (arith, many-rows es₀))) ∙ tries-none need′ f (rows es) m;
+      ready = w .0 .ready;
+    }

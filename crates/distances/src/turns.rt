@@ -1,5 +1,6 @@
 ghost use mathlib.Core.Path.{_≡_};
-ghost use Rattle.distances.specs.Turns.{OfferSays, GoalSays, CrossSays, RoundSays};
+ghost use Prim.Native.Nat.{_+_};
+ghost use Rattle.distances.specs.Turns.{OfferSays, GoalSays, CrossSays, AcrossSays, AfterSays, RoundSays};
 use crate::cover::is_covered;
 use bounds::refusal::Refusal;
 use entries::entry::Entry;
@@ -75,10 +76,10 @@ fn cross<P: Plan, S: Store>(
     plan: &P,
     store: &mut S,
     round: u64,
-    entry: &Entry,
+    held: &Entry,
     k: usize,
 ) -> Result<(), Refusal>
-    ensures says { λ r. ⌜ CrossSays (P·Plan .meaning (now (plan .entry))) (S·Store .dimension (now (store .entry))) (S·Store .need (S·Store .dimension (now (store .entry)))) round (now (entry .entry)) k (S·Store .entries (now (store .entry))) (S·Store .room (now (store .entry))) r (S·Store .entries (now (store .exit))) (S·Store .room (now (store .exit))) ⌝ }
+    ensures says { λ r. ⌜ CrossSays (P·Plan .meaning (now (plan .entry))) (S·Store .dimension (now (store .entry))) (S·Store .need (S·Store .dimension (now (store .entry)))) round (now (held .entry)) k (S·Store .entries (now (store .entry))) (S·Store .room (now (store .entry))) r (S·Store .entries (now (store .exit))) (S·Store .room (now (store .exit))) ⌝ }
     ensures clocks { λ _. ⌜ S·Store .dimension (now (store .exit)) ≡ S·Store .dimension (now (store .entry)) ⌝ }
 {
     if k >= plan.outcomes() {
@@ -90,16 +91,91 @@ fn cross<P: Plan, S: Store>(
             if outcome.chance < 1 {
                 return Ok(());
             }
-            if outcome.target != entry.position {
+            if outcome.target != held.position {
                 return Ok(());
             }
             match plan.move_at(outcome.cause) {
                 Err(why) => Err(why),
                 Ok(cause) => {
-                    let left = step_zone(plan, &cause, &outcome, entry.zone);
+                    let left = step_zone(plan, &cause, &outcome, held.zone);
                     offer(plan, store, round, cause.source, left)
                 }
             }
         }
     }
+}
+
+// What the entry starts by every outcome, in order.
+fn from_entry<P: Plan, S: Store>(
+    plan: &P,
+    store: &mut S,
+    round: u64,
+    held: &Entry,
+) -> Result<(), Refusal>
+    ensures says { λ r. ⌜ AcrossSays (P·Plan .meaning (now (plan .entry))) (S·Store .dimension (now (store .entry))) (S·Store .need (S·Store .dimension (now (store .entry)))) round (now (held .entry)) (S·Store .entries (now (store .entry))) (S·Store .room (now (store .entry))) r (S·Store .entries (now (store .exit))) (S·Store .room (now (store .exit))) ⌝ }
+    ensures clocks { λ _. ⌜ S·Store .dimension (now (store .exit)) ≡ S·Store .dimension (now (store .entry)) ⌝ }
+{
+    for k in 0..plan.outcomes() {
+        match cross(plan, store, round, held, k) {
+            Ok(_) => {}
+            Err(why) => return Err(why),
+        }
+    }
+    Ok(())
+}
+
+// What entry k, from 0, starts, if it is of the last round.
+fn from_last<P: Plan, S: Store>(
+    plan: &P,
+    store: &mut S,
+    round: u64,
+    last: u64,
+    k: usize,
+) -> Result<(), Refusal>
+    ensures says { λ r. ⌜ AfterSays (P·Plan .meaning (now (plan .entry))) (S·Store .dimension (now (store .entry))) (S·Store .need (S·Store .dimension (now (store .entry)))) round last k (S·Store .entries (now (store .entry))) (S·Store .room (now (store .entry))) r (S·Store .entries (now (store .exit))) (S·Store .room (now (store .exit))) ⌝ }
+    ensures clocks { λ _. ⌜ S·Store .dimension (now (store .exit)) ≡ S·Store .dimension (now (store .entry)) ⌝ }
+{
+    if k >= store.count() {
+        return Ok(());
+    }
+    match store.read(k + 1) {
+        Err(why) => Err(why),
+        Ok(entry) => {
+            if entry.round != last {
+                return Ok(());
+            }
+            from_entry(plan, store, round, &entry)
+        }
+    }
+}
+
+// A later round: each entry of the last one, in order.
+fn next_round<P: Plan, S: Store>(
+    plan: &P,
+    store: &mut S,
+    round: u64,
+    last: u64,
+) -> Result<(), Refusal>
+    requires { ⌜ last + 1 ≡ round ⌝ }
+    ensures says { λ r. ⌜ RoundSays (P·Plan .meaning (now (plan .entry))) (S·Store .dimension (now (store .entry))) (S·Store .need (S·Store .dimension (now (store .entry)))) round (S·Store .entries (now (store .entry))) (S·Store .room (now (store .entry))) r (S·Store .entries (now (store .exit))) (S·Store .room (now (store .exit))) ⌝ }
+    ensures clocks { λ _. ⌜ S·Store .dimension (now (store .exit)) ≡ S·Store .dimension (now (store .entry)) ⌝ }
+{
+    for k in 0..store.count() {
+        match from_last(plan, store, round, last, k) {
+            Ok(_) => {}
+            Err(why) => return Err(why),
+        }
+    }
+    Ok(())
+}
+
+// A round of the plan over the store.
+pub fn do_round<P: Plan, S: Store>(plan: &P, store: &mut S, round: u64) -> Result<(), Refusal>
+    ensures says { λ r. ⌜ RoundSays (P·Plan .meaning (now (plan .entry))) (S·Store .dimension (now (store .entry))) (S·Store .need (S·Store .dimension (now (store .entry)))) round (S·Store .entries (now (store .entry))) (S·Store .room (now (store .entry))) r (S·Store .entries (now (store .exit))) (S·Store .room (now (store .exit))) ⌝ }
+    ensures clocks { λ _. ⌜ S·Store .dimension (now (store .exit)) ≡ S·Store .dimension (now (store .entry)) ⌝ }
+{
+    if round == 0 {
+        return first_round(plan, store);
+    }
+    next_round(plan, store, round, round - 1)
 }

@@ -10,17 +10,17 @@ returns-then-outcome-lt1 g c =
     let s = c .args .store .now in
     let n = g .S·Store .dimension s in
     record {
-      says = unlikely (g .P·Plan .meaning p) (g .P·Plan .sound p) n (g .S·Store .need n) (g .S·Store .entries s) (g .S·Store .room s) (c .args .round) (c .args .entry .now) (c .args .k) (c .in-Ok .outcome) (c .in-Ok .ensures tt) (c .if-outcome-lt1 .taken) tt;
+      says = unlikely (g .P·Plan .meaning p) (g .P·Plan .sound p) n (g .S·Store .need n) (g .S·Store .entries s) (g .S·Store .room s) (c .args .round) (c .args .held .now) (c .args .k) (c .in-Ok .outcome) (c .in-Ok .ensures tt) (c .if-outcome-lt1 .taken) tt;
       clocks = refl;
     }
 
-pub returns-then-outcome-entry : need.returns-then-outcome-entry
-returns-then-outcome-entry g c =
+pub returns-then-outcome-held : need.returns-then-outcome-held
+returns-then-outcome-held g c =
     let p = c .args .plan .now in
     let s = c .args .store .now in
     let n = g .S·Store .dimension s in
     record {
-      says = elsewhere (g .P·Plan .meaning p) (g .P·Plan .sound p) n (g .S·Store .need n) (g .S·Store .entries s) (g .S·Store .room s) (c .args .round) (c .args .entry .now) (c .args .k) (c .in-Ok .outcome) (c .in-Ok .ensures tt) (c .if-outcome-entry .taken) tt;
+      says = elsewhere (g .P·Plan .meaning p) (g .P·Plan .sound p) n (g .S·Store .need n) (g .S·Store .entries s) (g .S·Store .room s) (c .args .round) (c .args .held .now) (c .args .k) (c .in-Ok .outcome) (c .in-Ok .ensures tt) (c .if-outcome-held .taken) tt;
       clocks = refl;
     }
 
@@ -30,7 +30,7 @@ returns-in-Err-move-at g c =
     let s = c .args .store .now in
     let n = g .S·Store .dimension s in
     record {
-      says = no-move-there (g .P·Plan .meaning p) (g .P·Plan .sound p) n (g .S·Store .need n) (g .S·Store .entries s) (g .S·Store .room s) (c .args .round) (c .args .entry .now) (c .args .k) (c .in-Ok .outcome) (c .in-Ok .ensures tt) (c .in-Err-move-at .why) (Err (c .in-Err-move-at .why)) (c .in-Err-move-at .ensures tt);
+      says = no-move-there (g .P·Plan .meaning p) (g .P·Plan .sound p) n (g .S·Store .need n) (g .S·Store .entries s) (g .S·Store .room s) (c .args .round) (c .args .held .now) (c .args .k) (c .in-Ok .outcome) (c .in-Ok .ensures tt) (c .in-Err-move-at .why) (Err (c .in-Err-move-at .why)) (c .in-Err-move-at .ensures tt);
       clocks = refl;
     }
 
@@ -40,8 +40,8 @@ returns-in-Ok-move-at g c =
     let s = c .args .store .now in
     let n = g .S·Store .dimension s in
     record {
-      says = crossed (g .P·Plan .meaning p) (g .P·Plan .sound p) n (g .S·Store .need n) (g .S·Store .entries s) (g .S·Store .room s) (c .args .round) (c .args .entry .now) (c .args .k) (c .in-Ok .outcome) (c .in-Ok .ensures tt)
-        (c .if-outcome-lt1 .left) (c .if-outcome-entry .left) (c .in-Ok-move-at .cause) (c .in-Ok-move-at .ensures tt) (c .step-zone-left .result) (c .offer .result)
+      says = crossed (g .P·Plan .meaning p) (g .P·Plan .sound p) n (g .S·Store .need n) (g .S·Store .entries s) (g .S·Store .room s) (c .args .round) (c .args .held .now) (c .args .k) (c .in-Ok .outcome) (c .in-Ok .ensures tt)
+        (c .if-outcome-lt1 .left) (c .if-outcome-held .left) (c .in-Ok-move-at .cause) (c .in-Ok-move-at .ensures tt) (c .step-zone-left .result) (c .offer .result)
         (g .S·Store .entries (c .offer .last .store)) (g .S·Store .room (c .offer .last .store)) (c .step-zone-left .ensures) (c .offer .ensures .says);
       clocks = c .offer .ensures .clocks;
     }
