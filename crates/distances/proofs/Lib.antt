@@ -1,3 +1,4 @@
 pub mod Covering
 pub mod Offering
 pub mod Turning
+pub mod Finding

@@ -1,3 +1,4 @@
 pub mod Rows
 pub mod Covers
 pub mod Turns
+pub mod Finds

@@ -1,2 +1,3 @@
 mod cover;
-mod turns;
+mod find;
+pub mod turns;
