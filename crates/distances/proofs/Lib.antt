@@ -2,3 +2,4 @@ pub mod Covering
 pub mod Offering
 pub mod Turning
 pub mod Finding
+pub mod Searched

@@ -2,3 +2,4 @@ pub mod Rows
 pub mod Covers
 pub mod Turns
 pub mod Finds
+pub mod Searching
