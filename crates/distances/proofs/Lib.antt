@@ -1,1 +1,5 @@
 pub mod Covering
+pub mod Offering
+pub mod Turning
+pub mod Finding
+pub mod Searched

@@ -1,2 +1,5 @@
 pub mod Rows
 pub mod Covers
+pub mod Turns
+pub mod Finds
+pub mod Searching

@@ -1,1 +1,4 @@
 mod cover;
+mod find;
+pub mod search;
+pub mod turns;
