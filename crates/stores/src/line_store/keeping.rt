@@ -56,3 +56,48 @@ fn nth_line<'a>(bytes: &'a [u8], i: usize) -> Option<&'a [u8]>
     }
     Some(&rest[0..end + 1])
 }
+
+pub impl<'a> Store for LineStore<'a> as LineStored {
+    ghost dimension = { λ s. s .clocks .count };
+
+    ghost counted = { λ s. record { least = s .clocks .least; most = s .clocks .most } };
+
+    ghost entries = { λ s. text-of s };
+
+    ghost room = { λ s. left (length (now (s .bytes))) (s .used) };
+
+    ghost bounded = { λ s. left-bounded (length (now (s .bytes))) (s .used) };
+
+    ghost need = { λ n e. length (line n e) };
+
+    ghost needs = { line-some };
+
+    fn put(&mut self, entry: Entry) -> Result<(), Refusal> {
+        self.keep(entry)
+    }
+
+    fn clocks(&self) -> ClockCount {
+        self.clocks
+    }
+
+    fn count(&self) -> usize {
+        self.count
+    }
+
+    fn read(&self, k: usize) -> Result<Entry, Refusal> {
+        if k < 1 {
+            return Err(Refusal::Entry);
+        }
+        if k > self.count {
+            return Err(Refusal::Entry);
+        }
+        let bytes: &[u8] = self.bytes;
+        match nth_line(&bytes[0..self.used], k - 1) {
+            None => Err(Refusal::Entry),
+            Some(line) => match Entry::read(self.clocks, line) {
+                Ok(entry) => Ok(entry),
+                Err(_) => Err(Refusal::Entry),
+            },
+        }
+    }
+}
