@@ -48,15 +48,15 @@ module _ (n : ℕ) (Z Y : ℕ → ℕ → UpperBound) (same : (i j : ℕ) → i 
       ⊎-elim {C = whole n Y i j ≡ whole n Z i j}
       (λ e. sym (whole-same n Y i j e) ∙ whole-same n Z i j e)
       (λ d. ⊎-elim {C = whole n Y i j ≡ whole n Z i j}
-        (λ l. sym (whole-none n Y i j d l) ∙ whole-none n Z i j d l)
-        (λ l. ⊎-elim {C = whole n Y i j ≡ whole n Z i j}
-          (λ k. ⊎-elim {C = whole n Y i j ≡ whole n Z i j}
-            (λ z. sym (whole-zero n Y i j d l k z) ∙ whole-zero n Z i j d l k z)
-            (λ z. sym (whole-first n Y i j d l k z) ∙ same i 0 hi (omega arith) l (omega arith) z ∙ whole-first n Z i j d l k z)
-            (cases-eq i 0))
-          (λ k. sym (whole-kept n Y i j d l k) ∙ same i j hi hj l k d ∙ whole-kept n Z i j d l k)
-          (cases-lt n j))
-        (cases-lt n i))
+      (λ l. sym (whole-none n Y i j d l) ∙ whole-none n Z i j d l)
+      (λ l. ⊎-elim {C = whole n Y i j ≡ whole n Z i j}
+      (λ k. ⊎-elim {C = whole n Y i j ≡ whole n Z i j}
+      (λ z. sym (whole-zero n Y i j d l k z) ∙ whole-zero n Z i j d l k z)
+      (λ z. sym (whole-first n Y i j d l k z) ∙ same i 0 hi (omega arith) l (omega arith) z ∙ whole-first n Z i j d l k z)
+      (cases-eq i 0))
+      (λ k. sym (whole-kept n Y i j d l k) ∙ same i j hi hj l k d ∙ whole-kept n Z i j d l k)
+      (cases-lt n j))
+      (cases-lt n i))
       (cases-eq i j)
 
 -- bounds that were read of an entry's line, and made whole, are those of its zone
@@ -72,9 +72,9 @@ whole-given n f bs ws is drawn made p h =
     ap (λ (k : ℕ). decode (code-of xs k)) (sym e)
     ∙ asks-free n xs (sound xs (f .zone .ok)) (is .asks) (p / 9) (p % 9) hi hj
     ∙ sym (whole-by n (at xs) (bounds-at bs) (λ i j a b l k d.
-        let r : (9 * i + j) / 9 ≡ i = omega arith in
-        let c : (9 * i + j) % 9 ≡ j = omega arith in
-        drawn (9 * i + j) (omega arith) ∙ sym (seen-shown n (at xs) (9 * i + j) (omega (arith, r)) (omega (arith, c)) (λ z. d (sym r ∙ z ∙ c))) ∙ (λ t. at xs (r t) (c t))) (p / 9) (p % 9) hi hj)
+    let r : (9 * i + j) / 9 ≡ i = omega arith in
+    let c : (9 * i + j) % 9 ≡ j = omega arith in
+    drawn (9 * i + j) (omega arith) ∙ sym (seen-shown n (at xs) (9 * i + j) (omega (arith, r)) (omega (arith, c)) (λ z. d (sym r ∙ z ∙ c))) ∙ (λ t. at xs (r t) (c t))) (p / 9) (p % 9) hi hj)
     ∙ sym (made p h)
 
 -- two zones with the same bounds

@@ -181,9 +181,9 @@ module _ (n : ℕ) (Z : ℕ → ℕ → UpperBound) (reach : (p : ℕ) → p < 8
   passed p bs h e f = record {
     long = f .long;
     done = λ q l. ⊎-elim {C = bound-of (getD bs q None) ≡ seen n Z q}
-      (λ s. ap (λ (k : ℕ). bound-of (getD bs k None)) s ∙ ap bound-of (f .rest p (omega arith)) ∙ e ∙ ap (seen n Z) (sym s))
-      (λ d. f .done q (omega arith))
-      (cases-eq q p);
+        (λ s. ap (λ (k : ℕ). bound-of (getD bs k None)) s ∙ ap bound-of (f .rest p (omega arith)) ∙ e ∙ ap (seen n Z) (sym s))
+        (λ d. f .done q (omega arith))
+        (cases-eq q p);
     rest = λ q l. f .rest q (omega arith);
   }
 
@@ -194,9 +194,9 @@ module _ (n : ℕ) (Z : ℕ → ℕ → UpperBound) (reach : (p : ℕ) → p < 8
       record {
         long = length-set bs p b ∙ f .long;
         done = λ q l. ⊎-elim {C = bound-of (getD (set bs p b) q None) ≡ seen n Z q}
-          (λ s. ap (λ (k : ℕ). bound-of (getD (set bs p b) k None)) s ∙ ap bound-of (getD-set-same bs p b None lt) ∙ e ∙ ap (seen n Z) (sym s))
-          (λ d. ap bound-of (getD-set-other bs p q b None d) ∙ f .done q (omega arith))
-          (cases-eq q p);
+            (λ s. ap (λ (k : ℕ). bound-of (getD (set bs p b) k None)) s ∙ ap bound-of (getD-set-same bs p b None lt) ∙ e ∙ ap (seen n Z) (sym s))
+            (λ d. ap bound-of (getD-set-other bs p q b None d) ∙ f .done q (omega arith))
+            (cases-eq q p);
         rest = λ q l. let d : q ≢ p = omega arith in getD-set-other bs p q b None d ∙ f .rest q (omega arith);
       }
 

@@ -29,7 +29,12 @@ impl<'a> LineStore<'a> {
         }
         let text = entry.line(self.clocks)?;
         let need = text.len();
-        if need > self.bytes.len().min(1_000_000_000).saturating_sub(self.used) {
+        if need
+            > self.bytes
+                .len()
+                .min(1_000_000_000)
+                .saturating_sub(self.used)
+        {
             return Err(Refusal::Full);
         }
         self.lay_all(text.as_bytes());

@@ -23,10 +23,12 @@ returns-in-Err c = λ f is d.
 pub returns-then-is-for : need.returns-then-is-for
 returns-then-is-for c =
     let made = λ (p : ℕ) (h : p < 81). c .whole-bounds .ensures p h ∙ ap (λ (n : ℕ). whole n (bounds-at (c .args .draft .bounds)) (p / 9) (p % 9)) (c .get .ensures) in
-    let e = c .if-is-for .ensures tt .0 refl in
-    (e, λ f is d.
-      let g = whole-given (c .args .clocks .count) f (c .args .draft .bounds) (c .whole-bounds .result) is (d .bounds) made in
-      same-entry f (record { position = c .args .draft .position; round = c .args .draft .round; zone = c .in-Ok .zone }) (sym (d .position)) (sym (d .round)) (given-same (c .whole-bounds .result) (f .zone) (c .in-Ok .zone) (is .places) (e .places) g (c .in-Ok .ensures tt)))
+    let e = c .if-is-for .ensures tt .0 refl in (
+      e,
+      λ f is d.
+          let g = whole-given (c .args .clocks .count) f (c .args .draft .bounds) (c .whole-bounds .result) is (d .bounds) made in
+          same-entry f (record { position = c .args .draft .position; round = c .args .draft .round; zone = c .in-Ok .zone }) (sym (d .position)) (sym (d .round)) (given-same (c .whole-bounds .result) (f .zone) (c .in-Ok .zone) (is .places) (e .places) g (c .in-Ok .ensures tt)),
+    )
 
 pub returns-else-is-for : need.returns-else-is-for
 returns-else-is-for c = λ f is d.

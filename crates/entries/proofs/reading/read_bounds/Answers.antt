@@ -23,25 +23,23 @@ offset-bounds-place c =
 pub loop-item-again-in-Some-read-item : need.loop-item-again-in-Some-read-item
 loop-item-again-in-Some-read-item c =
     let ps = ahead (c .loop-item .items) in
-    let bs = c .loop-item .bounds in
-    (
+    let bs = c .loop-item .bounds in (
       simp length-set (c .loop-item .inv .0),
       ap (λ (l : List Place). bounds-from l (set bs (c .in-Some-read-item .place) (Some (c .in-Some-read-item .bound)))) (c .next .ensures .rest)
-      ∙ ap (λ (o : Option (ℕ × Bound)). bounds-from (tail-places ps) (noted bs o)) (c .in-Some-read-item .ensures tt)
-      ∙ sym (bounds-step ps bs (c .next .result) (c .in-Some .item) (c .in-Some .is) (c .next .ensures .first))
-      ∙ c .loop-item .inv .1,
+          ∙ ap (λ (o : Option (ℕ × Bound)). bounds-from (tail-places ps) (noted bs o)) (c .in-Some-read-item .ensures tt)
+          ∙ sym (bounds-step ps bs (c .next .result) (c .in-Some .item) (c .in-Some .is) (c .next .ensures .first))
+          ∙ c .loop-item .inv .1,
     )
 
 pub loop-item-again : need.loop-item-again
 loop-item-again c =
     let ps = ahead (c .loop-item .items) in
-    let bs = c .loop-item .bounds in
-    (
+    let bs = c .loop-item .bounds in (
       c .loop-item .inv .0,
       ap (λ (l : List Place). bounds-from l bs) (c .next .ensures .rest)
-      ∙ ap (λ (o : Option (ℕ × Bound)). bounds-from (tail-places ps) (noted bs o)) (c .in-rest-read-item .ensures tt)
-      ∙ sym (bounds-step ps bs (c .next .result) (c .in-Some .item) (c .in-Some .is) (c .next .ensures .first))
-      ∙ c .loop-item .inv .1,
+          ∙ ap (λ (o : Option (ℕ × Bound)). bounds-from (tail-places ps) (noted bs o)) (c .in-rest-read-item .ensures tt)
+          ∙ sym (bounds-step ps bs (c .next .result) (c .in-Some .item) (c .in-Some .is) (c .next .ensures .first))
+          ∙ c .loop-item .inv .1,
     )
 
 pub returns : need.returns

@@ -14,5 +14,6 @@ pub returns : need.returns
 returns c =
     c .read-above .ensures ∙ signed-plain (c .args .bytes .now)
     (elim (c .else-bytes-gt0 .came) [
-      else-bytes-gt0·by·else-bytes-gt0 w ↦ no-first (c .args .bytes .now) (w .if-bytes-gt0 .left)
-    | else-bytes-gt0·by·then-bytes-gt0·else-bytes-eq45 w ↦ w .if-bytes-eq45 .left ])
+      | else-bytes-gt0·by·else-bytes-gt0 w ↦ no-first (c .args .bytes .now) (w .if-bytes-gt0 .left)
+      | else-bytes-gt0·by·then-bytes-gt0·else-bytes-eq45 w ↦ w .if-bytes-eq45 .left
+    ])

@@ -16,18 +16,27 @@ use Rattle.entries.proofs.Drafts.{body-front}
 use Rattle.entries.proofs.entry.Entry.read.Needs as need
 
 pub returns-in-None : need.returns-in-None
-returns-in-None c = (refl, λ f is e.
-    c .in-None .ensures tt (c .args .clocks .count) f is (body-front (c .args .clocks .count) f is (c .args .bytes .now) (c .up-to-end .result) (c .up-to-end .ensures .value) e))
+returns-in-None c = (
+  refl,
+  λ f is e.
+      c .in-None .ensures tt (c .args .clocks .count) f is (body-front (c .args .clocks .count) f is (c .args .bytes .now) (c .up-to-end .result) (c .up-to-end .ensures .value) e),
+)
 
 pub returns-in-None-found : need.returns-in-None-found
-returns-in-None-found c = (refl, λ f is e.
-    c .in-None-found .ensures tt f is (c .in-Some .ensures tt (c .args .clocks .count) f is (body-front (c .args .clocks .count) f is (c .args .bytes .now) (c .up-to-end .result) (c .up-to-end .ensures .value) e)))
+returns-in-None-found c = (
+  refl,
+  λ f is e.
+      c .in-None-found .ensures tt f is (c .in-Some .ensures tt (c .args .clocks .count) f is (body-front (c .args .clocks .count) f is (c .args .bytes .now) (c .up-to-end .result) (c .up-to-end .ensures .value) e)),
+)
 
 pub returns-then-not-has-line : need.returns-then-not-has-line
-returns-then-not-has-line c = (refl, λ f is e.
-    let d = c .in-Some .ensures tt (c .args .clocks .count) f is (body-front (c .args .clocks .count) f is (c .args .bytes .now) (c .up-to-end .result) (c .up-to-end .ensures .value) e) in
-    let same = c .in-Some-found .ensures tt .1 f is d in
-    both-ways (c .has-line .result) (c .if-not-has-line .taken) (c .has-line .ensures .1 (ap (line (c .args .clocks .count)) (sym same) ∙ e)))
+returns-then-not-has-line c = (
+  refl,
+  λ f is e.
+      let d = c .in-Some .ensures tt (c .args .clocks .count) f is (body-front (c .args .clocks .count) f is (c .args .bytes .now) (c .up-to-end .result) (c .up-to-end .ensures .value) e) in
+      let same = c .in-Some-found .ensures tt .1 f is d in
+      both-ways (c .has-line .result) (c .if-not-has-line .taken) (c .has-line .ensures .1 (ap (line (c .args .clocks .count)) (sym same) ∙ e)),
+)
 
 pub returns-else-not-has-line : need.returns-else-not-has-line
 returns-else-not-has-line c = record {

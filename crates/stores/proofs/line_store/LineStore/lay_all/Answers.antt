@@ -20,8 +20,7 @@ lay-requires c κs =
 
 pub loop-i-again : need.loop-i-again
 loop-i-again c =
-    let s = c .args .self .now in
-    (
+    let s = c .args .self .now in (
       c .lay .ensures .used ∙ c .loop-i .inv .0,
       c .lay .ensures .count ∙ c .loop-i .inv .1,
       c .lay .ensures .clocks ∙ c .loop-i .inv .2,

@@ -22,9 +22,11 @@ pub loop-j-again : need.loop-j-again
 loop-j-again c =
     let r = c .loop-j .rest .now in
     let k = c .up-to-end .result + 1 in
-    let t = take-all (length r - k) (drop k r) (omega (arith, length-drop k r)) in
-    (omega (arith, ap length t, length-drop k r, c .loop-j .inv .0), λ n es fs e all is long.
-      t ∙ step n es fs e all r (c .up-to-end .result) (c .up-to-end .ensures .value) (c .loop-j .-j) (omega (arith, long)) (c .loop-j .inv .1 n es fs e all is long) .1)
+    let t = take-all (length r - k) (drop k r) (omega (arith, length-drop k r)) in (
+      omega (arith, ap length t, length-drop k r, c .loop-j .inv .0),
+      λ n es fs e all is long.
+          t ∙ step n es fs e all r (c .up-to-end .result) (c .up-to-end .ensures .value) (c .loop-j .-j) (omega (arith, long)) (c .loop-j .inv .1 n es fs e all is long) .1,
+    )
 
 pub returns-then-end-rest-2 : need.returns-then-end-rest-2
 returns-then-end-rest-2 c = λ n es fs e all is long.

@@ -28,8 +28,7 @@ returns-in-None c =
 pub returns-in-Ok : need.returns-in-Ok
 returns-in-Ok c =
     let s = c .args .self .now in
-    let lt : c .args .k - 1 < s .count = omega arith in
-    (
+    let lt : c .args .k - 1 < s .count = omega arith in (
       omega arith,
       omega (arith, count-is (s .clocks .count) (s .count) (take (s .used) (s .bytes .now)) (s .kept)),
       entry-read (s .clocks .count) (s .count) (take (s .used) (s .bytes .now)) (s .kept) (c .args .k - 1) lt (c .in-Some .line) (c .in-Ok .entry) (front (s .bytes .now) (s .used) (c .args .k - 1) (Some (c .in-Some .line)) (c .in-Some .ensures tt)) (c .in-Ok .ensures tt),
