@@ -29,17 +29,22 @@ impl<'a> LineStore<'a> {
         }
         let text = entry.line(self.clocks)?;
         let need = text.len();
-        if need
-            > self.bytes
-                .len()
-                .min(1_000_000_000)
-                .saturating_sub(self.used)
-        {
+        if self.room() < need {
             return Err(Refusal::Full);
         }
         self.lay_all(text.as_bytes());
         self.commit(self.used + need, entry);
         Ok(())
+    }
+
+    // How many bytes are left.
+    fn room(&self) -> usize
+        ensures { λ r. ⌜ r ≡ left (length (now (now (self .entry) .bytes))) (now (self .entry) .used) ⌝ }
+    {
+        self.bytes
+            .len()
+            .min(1_000_000_000)
+            .saturating_sub(self.used)
     }
 }
 

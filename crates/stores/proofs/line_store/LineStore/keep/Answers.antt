@@ -19,7 +19,7 @@ commit-requires c κs =
     let is = c .in-Continue-text .ensures tt in
     let e = c .lay-all .ensures .bytes ∙ ap (written (s .bytes .now) (s .used)) (c .as-bytes .ensures ∙ is) in
     let m : c .len-need .result ≡ length l = c .len-need .ensures .value ∙ ap length is in
-    let fits : s .used + length l ≤ length (s .bytes .now) = omega (arith, m, c .min .ensures, c .saturating-sub .ensures, s .fits) in
+    let fits : s .used + length l ≤ length (s .bytes .now) = omega (arith, m, c .room .ensures, s .fits) in
     let k = ap (λ (x : ClockCount). x .count) (c .lay-all .ensures .clocks) in
     record {
       within = omega (arith, m, fits, c .lay-all .ensures .used, length-kept (s .bytes .now) (t .bytes .now) l (s .used) (t .used) e (c .lay-all .ensures .used) fits);
@@ -37,7 +37,7 @@ returns c =
     let is = c .in-Continue-text .ensures tt in
     let e = c .lay-all .ensures .bytes ∙ ap (written (s .bytes .now) (s .used)) (c .as-bytes .ensures ∙ is) in
     let m : c .len-need .result ≡ length l = c .len-need .ensures .value ∙ ap length is in
-    let fits : s .used + length l ≤ length (s .bytes .now) = omega (arith, m, c .min .ensures, c .saturating-sub .ensures, s .fits) in
+    let fits : s .used + length l ≤ length (s .bytes .now) = omega (arith, m, c .room .ensures, s .fits) in
     let all = c .commit .ensures .bytes ∙ e in
     let used = c .commit .ensures .used ∙ ap (λ (x : ℕ). x + c .len-need .result) (c .lay-all .ensures .used) ∙ ap (λ (x : ℕ). s .used + x) m in
     let count = c .commit .ensures .count ∙ ap (λ (x : ℕ). x + 1) (c .lay-all .ensures .count) in
@@ -49,9 +49,9 @@ returns c =
     record {
       says = record {
         is-entry = is-entry;
-        fits = omega (arith, m, c .min .ensures, c .saturating-sub .ensures);
+        fits = omega (arith, m, c .room .ensures);
         entries = held-more n (z .clocks .count) (s .count) (z .count) (take (s .used) (s .bytes .now)) (take (z .used) (z .bytes .now)) (c .args .entry) (s .kept) (z .kept) (ap (λ (x : ClockCount). x .count) clocks) is-entry count (ap (λ (x : ℕ). take x (z .bytes .now)) used ∙ more ∙ ap (λ (x : List ℕ). x ++ l) front);
-        room = omega (arith, m, c .min .ensures, c .saturating-sub .ensures, long, used);
+        room = omega (arith, m, c .room .ensures, long, used);
       };
       bytes = (all, used, count);
       clocks = clocks;
