@@ -117,7 +117,7 @@ module _ (n : ℕ) (e : Entry) (bs : List ℕ) (a0 a1 a2 a3 : List Place) (new :
   pub head-3 : a2 ≡ tail-places a1 → a3 ≡ tail-places a2 → head-place a3 ≡ Some (walk .p3)
   head-3 r2 r3 = ap head-place (r3 ∙ ap tail-places (r2 ∙ ap tail-places r1)) ∙ ap (λ (l : List Place). head-place (tail-places (tail-places (tail-places l)))) (walk .are)
 
-up-to-mark : (b : ℕ) (xs ys : List ℕ) → lacks b xs ≡ true → up-to b (xs ++ (b ∷ ys)) ≡ length xs
+pub up-to-mark : (b : ℕ) (xs ys : List ℕ) → lacks b xs ≡ true → up-to b (xs ++ (b ∷ ys)) ≡ length xs
 up-to-mark b [] ys h = let e = eq-eqb b b refl in rw e
 up-to-mark b (x ∷ xs) ys h =
     let p = and-parts (not (eqb x b)) (lacks b xs) h in

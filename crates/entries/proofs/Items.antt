@@ -91,3 +91,6 @@ length-line n e =
     let d = length-append (decimal (e .round)) (9 ∷ (c ++ (10 ∷ []))) in
     let f = length-append c (10 ∷ []) in
     omega arith
+
+pub line-some : (n : ℕ) (e : Entry) → 1 ≤ length (line n e)
+line-some n e = omega (arith, length-line n e)

@@ -7,3 +7,4 @@ pub mod Trips
 pub mod ReadSteps
 pub mod Drafts
 pub mod Same
+pub mod Unique

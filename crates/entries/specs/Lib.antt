@@ -3,3 +3,4 @@ pub mod Lines
 pub mod Adding
 pub mod Reading
 pub mod Finding
+pub mod Lists
