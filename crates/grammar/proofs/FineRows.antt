@@ -28,7 +28,7 @@ use Rattle.plans.specs.Meaning.{OutcomeOf, chances, no-position, no-outcome, no
 use Rattle.plans.specs.RowLists.{no-move, taken}
 use Rattle.std.specs.declared.result.Result.{Result}
 use Rattle.std.specs.declared.result.Result.the-variants.{Ok, Err}
-use Rattle.texts.specs.declared.progress.Header.{Header}
+use Rattle.texts.specs.declared.header.Header.{Header}
 use Rattle.texts.specs.Faults.{Fault}
 use Rattle.texts.specs.PlanRows.{Tables}
 use Rattle.grammar.specs.Grammar.{KeepsTo}

@@ -9,9 +9,9 @@ ghost use Rattle.grammar.specs.Tables.{PassesCheck};
 pub mod table;
 
 use texts::fault::TextFault;
+use texts::header::Header;
 use texts::plan_rows::PlanRows;
 use texts::plan_text::read_plan;
-use texts::progress::Header;
 
 // Reads a plan from its text, as `read_plan` does. It is accepted exactly if it writes down a plan that the rows have room for,
 // and then the lists hold that plan, and its rows pass the row check. No text writes down two plans.

@@ -13,7 +13,7 @@ use Rattle.plans.specs.declared.rows.Move.{Move}
 use Rattle.plans.specs.declared.rows.Outcome.{Outcome}
 use Rattle.plans.specs.declared.rows.Goal.{Goal}
 use Rattle.plans.specs.RowLists.{put}
-use Rattle.texts.specs.declared.progress.Header.{Header}
+use Rattle.texts.specs.declared.header.Header.{Header}
 use Rattle.texts.specs.declared.words.Letter.{Letter}
 use Rattle.texts.specs.declared.words.Letter.the-variants as letters
 use Rattle.texts.specs.declared.words.Phase.the-variants as phases

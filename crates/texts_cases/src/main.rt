@@ -46,7 +46,14 @@ fn run(rt: &LibcRuntime) -> Result<(), AnyError> {
     Ok(())
 }
 
-fn answer_over(rt: &LibcRuntime, text: &[u8], p: usize, m: usize, o: usize, g: usize) -> io::Result<()> {
+fn answer_over(
+    rt: &LibcRuntime,
+    text: &[u8],
+    p: usize,
+    m: usize,
+    o: usize,
+    g: usize,
+) -> io::Result<()> {
     let mut positions = [Position {
         invariant: ANYWHERE,
     }; 70];
@@ -86,7 +93,10 @@ fn answer(rt: &LibcRuntime, text: &[u8], rows: &mut PlanRows) -> io::Result<()> 
             let moves = rows.moves.len();
             let outcomes = rows.outcomes.len();
             let goals = rows.goals.len();
-            println!(rt, "{kind} {clocks}: {positions} {moves} {outcomes} {goals}")?;
+            println!(
+                rt,
+                "{kind} {clocks}: {positions} {moves} {outcomes} {goals}"
+            )?;
             tell(rt, rows)
         }
         Err(fault) => {
@@ -95,7 +105,10 @@ fn answer(rt: &LibcRuntime, text: &[u8], rows: &mut PlanRows) -> io::Result<()> 
             let field = fault.field;
             let at = fault.part.at;
             let long = fault.part.bytes.len();
-            println!(rt, "E\t{number}\t{line} (field {field}, {long} bytes at {at})")
+            println!(
+                rt,
+                "E\t{number}\t{line} (field {field}, {long} bytes at {at})"
+            )
         }
     }
 }
