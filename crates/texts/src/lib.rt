@@ -9,5 +9,6 @@ pub mod plan_rows;
 pub mod plan_text;
 mod progress;
 mod reader;
+mod row_reads;
 mod taking;
 mod words;
