@@ -100,7 +100,7 @@ unfolding tightened-by
 good-by n sides [] few g f = g
 good-by n sides (m ∷ ms) few g f = good-by n (tightened sides (held m)) ms few (good-more n sides m few g (f .0)) (f .1)
 
-same-place : {R : Type 0} (c : ℕ) (x : R) (i : ℕ) → getD (replicate c x) i x ≡ x
+pub same-place : {R : Type 0} (c : ℕ) (x : R) (i : ℕ) → getD (replicate c x) i x ≡ x
 same-place zero x i = refl
 same-place (suc c) x zero = refl
 same-place (suc c) x (suc i) = same-place c x i

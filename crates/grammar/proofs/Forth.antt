@@ -211,8 +211,8 @@ module _ (s t : State) (line : ℕ) (p first : Place) (sound : Sound s) (all : f
         stands = record { order = demanded-true _ Order line p (c .1); chances = λ _. sum; range = (record { low = n .0; high = n .1 }, w .fine); room = demanded-true _ Rows line p (f .1) };
         leads = ok-same t (moved (r .0)) (f .2) ∙ ap moved (ok-same (r .0) (record { source = number-in (d .0); guard = box-in (g .0); sum = 0 }) (g .2) ∙ ap (λ (b : ClockBox). record { source = number-in (d .0); guard = b; sum = 0 }) (w .is));
       } where
-    moved : Move → State
-    moved x = record { phase = phases.Moves; time = s .time; clocks = s .clocks; opened = line; opening = p; rows = with-move (s .rows) x }
+        moved : Move → State
+        moved x = record { phase = phases.Moves; time = s .time; clocks = s .clocks; opened = line; opening = p; rows = with-move (s .rows) x }
 
   goal-said : first .bytes ≡ 71 ∷ [] → summed (bare s) ≡ true → Ok t ≡ goal-line s line p (tail-places (fields-of p)) → Said s t line p
   goal-said byte sum e =
@@ -234,8 +234,8 @@ module _ (s t : State) (line : ℕ) (p first : Place) (sound : Sound s) (all : f
         stands = record { order = demanded-true _ Order line p (c .1); chances = λ _. sum; range = record { position = record { low = n .0; high = n .1 }; area = w .fine }; room = demanded-true _ Rows line p (f .1) };
         leads = ok-same t (aimed (r .0)) (f .2) ∙ ap aimed (ok-same (r .0) (record { position = number-in (d .0); area = box-in (g .0) }) (g .2) ∙ ap (λ (b : ClockBox). record { position = number-in (d .0); area = b }) (w .is));
       } where
-    aimed : Goal → State
-    aimed x = record { phase = phases.Goals; time = s .time; clocks = s .clocks; opened = s .opened; opening = s .opening; rows = with-goal (s .rows) x }
+        aimed : Goal → State
+        aimed x = record { phase = phases.Goals; time = s .time; clocks = s .clocks; opened = s .opened; opening = s .opening; rows = with-goal (s .rows) x }
 
   outcome-said : first .bytes ≡ 79 ∷ [] → Ok t ≡ outcome-line s line p (tail-places (fields-of p)) → Said s t line p
   outcome-said byte e =
@@ -260,8 +260,8 @@ module _ (s t : State) (line : ℕ) (p first : Place) (sound : Sound s) (all : f
         stands = record { order = demanded-true _ Order line p (d .1); chances = λ w. absurd (true≢false w); range = record { chance = n .1; target = record { low = m .0; high = m .1 }; clocks = w .fine }; room = demanded-true _ Rows line p (h .1) };
         leads = ok-same t (came (r .0)) (h .2) ∙ ap came (ok-same (r .0) (record { cause = s .rows .moves .used; chance = number-in (f .0); target = number-in (g .0); resets = clocks-in (k .0) }) (k .2) ∙ ap (λ (rs : List Bool). record { cause = s .rows .moves .used; chance = number-in (f .0); target = number-in (g .0); resets = rs }) (w .marks));
       } where
-    came : Outcome → State
-    came x = with-rows s (with-outcome (s .rows) x)
+        came : Outcome → State
+        came x = with-rows s (with-outcome (s .rows) x)
 
   time-said : first .bytes ≡ 84 ∷ [] → summed (bare s) ≡ true → Ok t ≡ time-line s line p (tail-places (fields-of p)) → Said s t line p
   time-said byte sum e =

@@ -15,7 +15,12 @@ use plans::rows::Position;
 // The rows that lines write, from their fields after the letter: refused by Line for the count of fields, then by Order where such a line may not stand,
 // and then field by field from the left.
 impl<'t> Line<'t> {
-    pub fn position(self, mut fields: Parts<'t>, may: bool, clocks: usize) -> Result<Position, TextFault<'t>>
+    pub fn position(
+        self,
+        mut fields: Parts<'t>,
+        may: bool,
+        clocks: usize,
+    ) -> Result<Position, TextFault<'t>>
         requires { ⌜ clocks ≤ 8 ⌝ }
         ensures { λ r. ⌜ faulty r ≡ position-read may clocks (self .entry .number) (place (self .entry .whole)) (ahead (fields .entry)) ⌝ }
     {
@@ -29,7 +34,13 @@ impl<'t> Line<'t> {
     }
 
     // A move from one of the `known` positions.
-    pub fn a_move(self, mut fields: Parts<'t>, may: bool, known: usize, clocks: usize) -> Result<Move, TextFault<'t>>
+    pub fn a_move(
+        self,
+        mut fields: Parts<'t>,
+        may: bool,
+        known: usize,
+        clocks: usize,
+    ) -> Result<Move, TextFault<'t>>
         requires few { ⌜ clocks ≤ 8 ⌝ }
         requires small { ⌜ known < 2 ^ 50 ⌝ }
         ensures { λ r. ⌜ faulty r ≡ move-read may known clocks (self .entry .number) (place (self .entry .whole)) (ahead (fields .entry)) ⌝ }
@@ -76,7 +87,13 @@ impl<'t> Line<'t> {
         })
     }
 
-    pub fn goal(self, mut fields: Parts<'t>, may: bool, known: usize, clocks: usize) -> Result<Goal, TextFault<'t>>
+    pub fn goal(
+        self,
+        mut fields: Parts<'t>,
+        may: bool,
+        known: usize,
+        clocks: usize,
+    ) -> Result<Goal, TextFault<'t>>
         requires few { ⌜ clocks ≤ 8 ⌝ }
         requires small { ⌜ known < 2 ^ 50 ⌝ }
         ensures { λ r. ⌜ faulty r ≡ goal-read may known clocks (self .entry .number) (place (self .entry .whole)) (ahead (fields .entry)) ⌝ }
