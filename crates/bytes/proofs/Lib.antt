@@ -2,3 +2,4 @@ pub mod Steps
 pub mod Parting
 pub mod Reading
 pub mod Spelling
+pub mod Writing

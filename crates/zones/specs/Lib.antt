@@ -6,3 +6,4 @@ pub mod Cuts
 pub mod Resets
 pub mod Boxes
 pub mod Calls
+pub mod Given

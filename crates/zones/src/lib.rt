@@ -1,6 +1,7 @@
 mod back;
 pub mod boxes;
 mod codes;
+mod given;
 mod order;
 mod resets;
 pub mod state;

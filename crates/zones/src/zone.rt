@@ -36,6 +36,8 @@ use bounds::bound::Bound;
 use bounds::refusal::Refusal;
 use bounds::time::TimeDomain;
 
+mod given;
+
 // A zone: for the clocks 0 to 8, where clock 0 reads 0, a bound on each reading minus each other.
 // The code of the bound at (i, j), on reading i minus reading j, stands at 9 i + j.
 #[derive(Clone, Copy)]

@@ -1,0 +1,10 @@
+pub mod Wholes
+pub mod Asks
+pub mod Steps
+pub mod Items
+pub mod Short
+pub mod Trips
+pub mod ReadSteps
+pub mod Drafts
+pub mod Same
+pub mod Unique

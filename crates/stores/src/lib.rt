@@ -1,0 +1,4 @@
+pub mod line_store;
+pub mod loan;
+pub mod row_store;
+pub mod store;
