@@ -9,7 +9,7 @@ use Rattle.std.specs.declared.result.Result.the-variants.{Ok, Err}
 use Rattle.plans.specs.declared.rows.Outcome.{Outcome}
 use Rattle.plans.specs.Meaning.{no-position, no-outcome, no-goal}
 use Rattle.plans.specs.RowLists.{Kept, taken, emptied, no-move}
-use Rattle.texts.specs.declared.progress.Header.{Header}
+use Rattle.texts.specs.declared.header.Header.{Header}
 use Rattle.texts.specs.Faults.{Fault}
 use Rattle.texts.specs.PlanRows.{Tables}
 use Rattle.texts.specs.Texts.{Ending, read-text}

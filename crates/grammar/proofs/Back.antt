@@ -34,6 +34,11 @@ use Rattle.texts.specs.Fields.{Shown, word, number, clocks, bounds, number-fiel
 use Rattle.texts.specs.BoxFields.{box-field, boxed, box-of, no-sides}
 use Rattle.texts.specs.Words.{letter-of, stands-at, kind-field, time-in, number-in, box-in, clocks-in, is-outcome, hand, cycle}
 use Rattle.texts.specs.PlanRows.{Tables, has-room}
+use Rattle.texts.specs.RowReads.{position-read, move-read, outcome-read, goal-read}
+use Rattle.plans.specs.declared.rows.Position.{Position}
+use Rattle.plans.specs.declared.rows.Move.{Move}
+use Rattle.plans.specs.declared.rows.Outcome.{Outcome}
+use Rattle.plans.specs.declared.rows.Goal.{Goal}
 use Rattle.texts.specs.States.{State, Sound}
 use Rattle.texts.specs.Lines.{settled, settled-by, unsummed, time-line, position-line, move-line, outcome-line, goal-line, line-of, stepped, with-position, with-move, with-outcome, with-goal, with-rows}
 use Rattle.grammar.specs.BoxesWritten.{BoundText, spell-box, spell-clocks, OneOf, FineBound, All, tightened-by, box-by, resets-by}
@@ -109,11 +114,13 @@ module _ (s : State) (line at : ℕ) (sound : Sound s) where
       let p : Place = record { bytes = spell (position ms); at = at } in
       let d = lacks-box 9 (s .clocks) ms (lit< tt) (sound .counted) (h .range) in
       let a : Place = record { bytes = spell-box ms; at = at + 2 } in
+      let read : position-read (stands-at letters.Position (s .phase) (s .rows .positions .used)) (s .clocks) line p (a ∷ []) ≡ Ok (position-row ms) =
+      on-to (demanded (stands-at letters.Position (s .phase) (s .rows .positions .used)) Order line p) _ tt _ (demanded-ok _ Order line p (h .order))
+      (on-to (box-field (s .clocks) line 2 a) _ (bounds (box-by ms) a) _ (box-back (s .clocks) line 2 (at + 2) ms (sound .counted) (h .range)) refl) in
       ap (step-by s line p) (one-field 80 at (spell-box ms) refl d)
       ∙ on-to (settled s) _ tt _ (settled-ok s (h .chances refl))
-      (on-to (demanded (stands-at letters.Position (s .phase) (s .rows .positions .used)) Order line p) _ tt _ (demanded-ok _ Order line p (h .order))
-      (on-to (box-field (s .clocks) line 2 a) _ (bounds (box-by ms) a) _ (box-back (s .clocks) line 2 (at + 2) ms (sound .counted) (h .range))
-      (on-to (demanded (has-room 64 (s .rows .positions)) Rows line p) _ tt _ (demanded-ok _ Rows line p (h .room)) refl)))
+      (on-to {X = Position} (position-read (stands-at letters.Position (s .phase) (s .rows .positions .used)) (s .clocks) line p (a ∷ [])) _ (position-row ms) _ read
+      (on-to (demanded (has-room 64 (s .rows .positions)) Rows line p) _ tt _ (demanded-ok _ Rows line p (h .room)) refl))
 
   move-back : (v : ℕ) (ms : List BoundText) → Stands (bare s) (move v ms) → stepped s line (record { bytes = spell (move v ms); at = at }) ≡ Ok (next s line (record { bytes = spell (move v ms); at = at }) (move v ms))
   move-back v ms h =
@@ -123,12 +130,14 @@ module _ (s : State) (line at : ℕ) (sound : Sound s) where
       let e = lacks-box 9 (s .clocks) ms (lit< tt) (sound .counted) (range .1) in
       let a : Place = record { bytes = decimal v; at = at + 2 } in
       let b : Place = record { bytes = spell-box ms; at = at + 2 + suc (length (decimal v)) } in
+      let read : move-read (stands-at letters.Move (s .phase) (s .rows .positions .used)) (s .rows .positions .used) (s .clocks) line p (a ∷ b ∷ []) ≡ Ok (record { source = v; guard = box-by ms; sum = 0 }) =
+      on-to (demanded (stands-at letters.Move (s .phase) (s .rows .positions .used)) Order line p) _ tt _ (demanded-ok _ Order line p (h .order))
+      (on-to (number-field 1 (s .rows .positions .used) Name line 2 a) _ (number v a) _ (field-back 1 (s .rows .positions .used) Name line 2 (at + 2) v few (range .0 .low) (range .0 .high))
+      (on-to (box-field (s .clocks) line 3 b) _ (bounds (box-by ms) b) _ (box-back (s .clocks) line 3 (at + 2 + suc (length (decimal v))) ms (sound .counted) (range .1)) refl)) in
       ap (step-by s line p) (two-fields 77 at (decimal v) (spell-box ms) refl d e)
       ∙ on-to (settled s) _ tt _ (settled-ok s (h .chances refl))
-      (on-to (demanded (stands-at letters.Move (s .phase) (s .rows .positions .used)) Order line p) _ tt _ (demanded-ok _ Order line p (h .order))
-      (on-to (number-field 1 (s .rows .positions .used) Name line 2 a) _ (number v a) _ (field-back 1 (s .rows .positions .used) Name line 2 (at + 2) v few (range .0 .low) (range .0 .high))
-      (on-to (box-field (s .clocks) line 3 b) _ (bounds (box-by ms) b) _ (box-back (s .clocks) line 3 (at + 2 + suc (length (decimal v))) ms (sound .counted) (range .1))
-      (on-to (demanded (has-room 256 (s .rows .moves)) Rows line p) _ tt _ (demanded-ok _ Rows line p (h .room)) refl))))
+      (on-to {X = Move} (move-read (stands-at letters.Move (s .phase) (s .rows .positions .used)) (s .rows .positions .used) (s .clocks) line p (a ∷ b ∷ [])) _ (record { source = v; guard = box-by ms; sum = 0 }) _ read
+      (on-to (demanded (has-room 256 (s .rows .moves)) Rows line p) _ tt _ (demanded-ok _ Rows line p (h .room)) refl))
 
   goal-back : (g : GoalText) → Stands (bare s) (goal g) → stepped s line (record { bytes = spell (goal g); at = at }) ≡ Ok (next s line (record { bytes = spell (goal g); at = at }) (goal g))
   goal-back g h =
@@ -138,12 +147,14 @@ module _ (s : State) (line at : ℕ) (sound : Sound s) where
       let e = lacks-box 9 (s .clocks) (g .area) (lit< tt) (sound .counted) (range .area) in
       let a : Place = record { bytes = decimal (g .position); at = at + 2 } in
       let b : Place = record { bytes = spell-box (g .area); at = at + 2 + suc (length (decimal (g .position))) } in
+      let read : goal-read (stands-at letters.Goal (s .phase) (s .rows .positions .used)) (s .rows .positions .used) (s .clocks) line p (a ∷ b ∷ []) ≡ Ok (goal-row g) =
+      on-to (demanded (stands-at letters.Goal (s .phase) (s .rows .positions .used)) Order line p) _ tt _ (demanded-ok _ Order line p (h .order))
+      (on-to (number-field 1 (s .rows .positions .used) Name line 2 a) _ (number (g .position) a) _ (field-back 1 (s .rows .positions .used) Name line 2 (at + 2) (g .position) few (range .position .low) (range .position .high))
+      (on-to (box-field (s .clocks) line 3 b) _ (bounds (box-by (g .area)) b) _ (box-back (s .clocks) line 3 (at + 2 + suc (length (decimal (g .position)))) (g .area) (sound .counted) (range .area)) refl)) in
       ap (step-by s line p) (two-fields 71 at (decimal (g .position)) (spell-box (g .area)) refl d e)
       ∙ on-to (settled s) _ tt _ (settled-ok s (h .chances refl))
-      (on-to (demanded (stands-at letters.Goal (s .phase) (s .rows .positions .used)) Order line p) _ tt _ (demanded-ok _ Order line p (h .order))
-      (on-to (number-field 1 (s .rows .positions .used) Name line 2 a) _ (number (g .position) a) _ (field-back 1 (s .rows .positions .used) Name line 2 (at + 2) (g .position) few (range .position .low) (range .position .high))
-      (on-to (box-field (s .clocks) line 3 b) _ (bounds (box-by (g .area)) b) _ (box-back (s .clocks) line 3 (at + 2 + suc (length (decimal (g .position)))) (g .area) (sound .counted) (range .area))
-      (on-to (demanded (has-room 64 (s .rows .goals)) Rows line p) _ tt _ (demanded-ok _ Rows line p (h .room)) refl))))
+      (on-to {X = Goal} (goal-read (stands-at letters.Goal (s .phase) (s .rows .positions .used)) (s .rows .positions .used) (s .clocks) line p (a ∷ b ∷ [])) _ (goal-row g) _ read
+      (on-to (demanded (has-room 64 (s .rows .goals)) Rows line p) _ tt _ (demanded-ok _ Rows line p (h .room)) refl))
 
   outcome-back : (o : OutcomeText) → Stands (bare s) (outcome o) → stepped s line (record { bytes = spell (outcome o); at = at }) ≡ Ok (next s line (record { bytes = spell (outcome o); at = at }) (outcome o))
   outcome-back o h =
@@ -155,12 +166,14 @@ module _ (s : State) (line at : ℕ) (sound : Sound s) where
       let a : Place = record { bytes = decimal (o .chance); at = at + 2 } in
       let b : Place = record { bytes = decimal (o .target); at = at + 2 + suc (length (decimal (o .chance))) } in
       let c : Place = record { bytes = spell-clocks (o .clocks); at = at + 2 + suc (length (decimal (o .chance))) + suc (length (decimal (o .target))) } in
-      ap (step-by s line p) (three-fields 79 at (decimal (o .chance)) (decimal (o .target)) (spell-clocks (o .clocks)) refl d e f)
-      ∙ (on-to (demanded (stands-at letters.Outcome (s .phase) (s .rows .positions .used)) Order line p) _ tt _ (demanded-ok _ Order line p (h .order))
+      let read : outcome-read (stands-at letters.Outcome (s .phase) (s .rows .positions .used)) (s .rows .moves .used) (s .rows .positions .used) (s .clocks) line p (a ∷ b ∷ c ∷ []) ≡ Ok (outcome-row (s .rows .moves .used) o) =
+      on-to (demanded (stands-at letters.Outcome (s .phase) (s .rows .positions .used)) Order line p) _ tt _ (demanded-ok _ Order line p (h .order))
       (on-to (number-field 0 1000 Number line 2 a) _ (number (o .chance) a) _ (field-back 0 1000 Number line 2 (at + 2) (o .chance) (lit< tt) (omega arith) (range .chance))
       (on-to (number-field 1 (s .rows .positions .used) Name line 3 b) _ (number (o .target) b) _ (field-back 1 (s .rows .positions .used) Name line 3 (at + 2 + suc (length (decimal (o .chance)))) (o .target) few (range .target .low) (range .target .high))
-      (on-to (clocks-field (s .clocks) line 4 c) _ (clocks (resets-by (o .clocks)) c) _ (clocks-back (s .clocks) line 4 (at + 2 + suc (length (decimal (o .chance))) + suc (length (decimal (o .target)))) (o .clocks) (sound .counted) (range .clocks))
-      (on-to (demanded (has-room 512 (s .rows .outcomes)) Rows line p) _ tt _ (demanded-ok _ Rows line p (h .room)) refl)))))
+      (on-to (clocks-field (s .clocks) line 4 c) _ (clocks (resets-by (o .clocks)) c) _ (clocks-back (s .clocks) line 4 (at + 2 + suc (length (decimal (o .chance))) + suc (length (decimal (o .target)))) (o .clocks) (sound .counted) (range .clocks)) refl))) in
+      ap (step-by s line p) (three-fields 79 at (decimal (o .chance)) (decimal (o .target)) (spell-clocks (o .clocks)) refl d e f)
+      ∙ on-to {X = Outcome} (outcome-read (stands-at letters.Outcome (s .phase) (s .rows .positions .used)) (s .rows .moves .used) (s .rows .positions .used) (s .clocks) line p (a ∷ b ∷ c ∷ [])) _ (outcome-row (s .rows .moves .used) o) _ read
+      (on-to (demanded (has-room 512 (s .rows .outcomes)) Rows line p) _ tt _ (demanded-ok _ Rows line p (h .room)) refl)
 
   time-back : (k : PlanTime) (n : ℕ) → Stands (bare s) (time k n) → stepped s line (record { bytes = spell (time k n); at = at }) ≡ Ok (next s line (record { bytes = spell (time k n); at = at }) (time k n))
   time-back Hand n h =

@@ -28,7 +28,7 @@ use Rattle.plans.specs.Meaning.{OutcomeOf, chances, no-position, no-outcome, no
 use Rattle.plans.specs.RowLists.{no-move, taken}
 use Rattle.std.specs.declared.result.Result.{Result}
 use Rattle.std.specs.declared.result.Result.the-variants.{Ok, Err}
-use Rattle.texts.specs.declared.progress.Header.{Header}
+use Rattle.texts.specs.declared.header.Header.{Header}
 use Rattle.texts.specs.Faults.{Fault}
 use Rattle.texts.specs.PlanRows.{Tables}
 use Rattle.grammar.specs.Grammar.{KeepsTo}
@@ -100,7 +100,7 @@ unfolding tightened-by
 good-by n sides [] few g f = g
 good-by n sides (m ∷ ms) few g f = good-by n (tightened sides (held m)) ms few (good-more n sides m few g (f .0)) (f .1)
 
-same-place : {R : Type 0} (c : ℕ) (x : R) (i : ℕ) → getD (replicate c x) i x ≡ x
+pub same-place : {R : Type 0} (c : ℕ) (x : R) (i : ℕ) → getD (replicate c x) i x ≡ x
 same-place zero x i = refl
 same-place (suc c) x zero = refl
 same-place (suc c) x (suc i) = same-place c x i

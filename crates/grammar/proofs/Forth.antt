@@ -34,6 +34,11 @@ use Rattle.texts.specs.Fields.{Shown, word, number, clocks, bounds, number-fiel
 use Rattle.texts.specs.BoxFields.{box-field, boxed, box-of, no-sides}
 use Rattle.texts.specs.Words.{letter-of, stands-at, kind-field, time-in, number-in, box-in, clocks-in, is-outcome, hand, cycle}
 use Rattle.texts.specs.PlanRows.{Tables, has-room}
+use Rattle.texts.specs.RowReads.{position-read, move-read, outcome-read, goal-read}
+use Rattle.plans.specs.declared.rows.Position.{Position}
+use Rattle.plans.specs.declared.rows.Move.{Move}
+use Rattle.plans.specs.declared.rows.Outcome.{Outcome}
+use Rattle.plans.specs.declared.rows.Goal.{Goal}
 use Rattle.texts.specs.States.{State, Sound}
 use Rattle.texts.specs.Lines.{settled, settled-by, unsummed, time-line, position-line, move-line, outcome-line, goal-line, line-of, stepped, with-position, with-move, with-outcome, with-goal, with-rows}
 use Rattle.grammar.specs.BoxesWritten.{BoundText, spell-box, spell-clocks, OneOf, FineBound, All, tightened-by, box-by, resets-by}
@@ -171,30 +176,32 @@ module _ (s t : State) (line : ℕ) (p first : Place) (sound : Sound s) (all : f
   position-said : first .bytes ≡ 80 ∷ [] → summed (bare s) ≡ true → Ok t ≡ position-line s line p (tail-places (fields-of p)) → Said s t line p
   position-said byte sum e =
       let ps = tail-places (fields-of p) in
-      let a = on-ok {X = Place} (field-next line p ps) _ t e in
-      let b = on-ok {X = Unit {0}} (no-field line p (tail-places ps)) _ t (a .2) in
-      let c = on-ok {X = Unit {0}} (demanded (stands-at letters.Position (s .phase) (s .rows .positions .used)) Order line p) _ t (b .2) in
-      let d = on-ok {X = Shown} (box-field (s .clocks) line 2 (a .0)) _ t (c .2) in
-      let f = on-ok {X = Unit {0}} (demanded (has-room 64 (s .rows .positions)) Rows line p) _ t (d .2) in
+      let r = on-ok {X = Position} (position-read (stands-at letters.Position (s .phase) (s .rows .positions .used)) (s .clocks) line p ps) _ t e in
+      let a = on-ok {X = Place} (field-next line p ps) _ (r .0) (r .1) in
+      let b = on-ok {X = Unit {0}} (no-field line p (tail-places ps)) _ (r .0) (a .2) in
+      let c = on-ok {X = Unit {0}} (demanded (stands-at letters.Position (s .phase) (s .rows .positions .used)) Order line p) _ (r .0) (b .2) in
+      let d = on-ok {X = Shown} (box-field (s .clocks) line 2 (a .0)) _ (r .0) (c .2) in
+      let f = on-ok {X = Unit {0}} (demanded (has-room 64 (s .rows .positions)) Rows line p) _ t (r .2) in
       let w = box-there (s .clocks) line 2 (a .0) (d .0) (sound .counted) (d .1) in
       let shape = all ∙ ap (λ l. first ∷ l) (shape-one line p (a .0) (b .0) ps (a .1) (b .1)) in
       record {
         item = position (w .marks);
         spelt = bytes-one p first (a .0) shape ∙ (λ i. byte i ++ (9 ∷ w .spelt i));
         stands = record { order = demanded-true _ Order line p (c .1); chances = λ _. sum; range = w .fine; room = demanded-true _ Rows line p (f .1) };
-        leads = ok-same t (with-rows s (with-position (s .rows) (record { invariant = box-in (d .0) }))) (f .2) ∙ ap (λ (b : ClockBox). with-rows s (with-position (s .rows) (record { invariant = b }))) (w .is);
+        leads = ok-same t (with-rows s (with-position (s .rows) (r .0))) (f .2) ∙ ap (λ (x : Position). with-rows s (with-position (s .rows) x)) (ok-same (r .0) (record { invariant = box-in (d .0) }) (d .2) ∙ ap (λ (b : ClockBox). record { invariant = b }) (w .is));
       }
 
   move-said : first .bytes ≡ 77 ∷ [] → summed (bare s) ≡ true → Ok t ≡ move-line s line p (tail-places (fields-of p)) → Said s t line p
   move-said byte sum e =
       let ps = tail-places (fields-of p) in
-      let a = on-ok {X = Place} (field-next line p ps) _ t e in
-      let a′ = on-ok {X = Place} (field-next line p (tail-places ps)) _ t (a .2) in
-      let b = on-ok {X = Unit {0}} (no-field line p (tail-places (tail-places ps))) _ t (a′ .2) in
-      let c = on-ok {X = Unit {0}} (demanded (stands-at letters.Move (s .phase) (s .rows .positions .used)) Order line p) _ t (b .2) in
-      let d = on-ok {X = Shown} (number-field 1 (s .rows .positions .used) Name line 2 (a .0)) _ t (c .2) in
-      let g = on-ok {X = Shown} (box-field (s .clocks) line 3 (a′ .0)) _ t (d .2) in
-      let f = on-ok {X = Unit {0}} (demanded (has-room 256 (s .rows .moves)) Rows line p) _ t (g .2) in
+      let r = on-ok {X = Move} (move-read (stands-at letters.Move (s .phase) (s .rows .positions .used)) (s .rows .positions .used) (s .clocks) line p ps) _ t e in
+      let a = on-ok {X = Place} (field-next line p ps) _ (r .0) (r .1) in
+      let a′ = on-ok {X = Place} (field-next line p (tail-places ps)) _ (r .0) (a .2) in
+      let b = on-ok {X = Unit {0}} (no-field line p (tail-places (tail-places ps))) _ (r .0) (a′ .2) in
+      let c = on-ok {X = Unit {0}} (demanded (stands-at letters.Move (s .phase) (s .rows .positions .used)) Order line p) _ (r .0) (b .2) in
+      let d = on-ok {X = Shown} (number-field 1 (s .rows .positions .used) Name line 2 (a .0)) _ (r .0) (c .2) in
+      let g = on-ok {X = Shown} (box-field (s .clocks) line 3 (a′ .0)) _ (r .0) (d .2) in
+      let f = on-ok {X = Unit {0}} (demanded (has-room 256 (s .rows .moves)) Rows line p) _ t (r .2) in
       let n = field-there 1 (s .rows .positions .used) Name line 2 (a .0) (d .0) (known s sound) (d .1) in
       let w = box-there (s .clocks) line 3 (a′ .0) (g .0) (sound .counted) (g .1) in
       let shape = all ∙ ap (λ l. first ∷ l) (shape-two line p (a .0) (a′ .0) (b .0) ps (a .1) (a′ .1) (b .1)) in
@@ -202,21 +209,22 @@ module _ (s t : State) (line : ℕ) (p first : Place) (sound : Sound s) (all : f
         item = move (number-in (d .0)) (w .marks);
         spelt = bytes-two p first (a .0) (a′ .0) shape ∙ (λ i. byte i ++ (9 ∷ (n .2 i ++ (9 ∷ w .spelt i))));
         stands = record { order = demanded-true _ Order line p (c .1); chances = λ _. sum; range = (record { low = n .0; high = n .1 }, w .fine); room = demanded-true _ Rows line p (f .1) };
-        leads = ok-same t (moved (number-in (d .0)) (box-in (g .0))) (f .2) ∙ ap (moved (number-in (d .0))) (w .is);
+        leads = ok-same t (moved (r .0)) (f .2) ∙ ap moved (ok-same (r .0) (record { source = number-in (d .0); guard = box-in (g .0); sum = 0 }) (g .2) ∙ ap (λ (b : ClockBox). record { source = number-in (d .0); guard = b; sum = 0 }) (w .is));
       } where
-        moved : ℕ → ClockBox → State
-        moved v b = record { phase = phases.Moves; time = s .time; clocks = s .clocks; opened = line; opening = p; rows = with-move (s .rows) (record { source = v; guard = b; sum = 0 }) }
+        moved : Move → State
+        moved x = record { phase = phases.Moves; time = s .time; clocks = s .clocks; opened = line; opening = p; rows = with-move (s .rows) x }
 
   goal-said : first .bytes ≡ 71 ∷ [] → summed (bare s) ≡ true → Ok t ≡ goal-line s line p (tail-places (fields-of p)) → Said s t line p
   goal-said byte sum e =
       let ps = tail-places (fields-of p) in
-      let a = on-ok {X = Place} (field-next line p ps) _ t e in
-      let a′ = on-ok {X = Place} (field-next line p (tail-places ps)) _ t (a .2) in
-      let b = on-ok {X = Unit {0}} (no-field line p (tail-places (tail-places ps))) _ t (a′ .2) in
-      let c = on-ok {X = Unit {0}} (demanded (stands-at letters.Goal (s .phase) (s .rows .positions .used)) Order line p) _ t (b .2) in
-      let d = on-ok {X = Shown} (number-field 1 (s .rows .positions .used) Name line 2 (a .0)) _ t (c .2) in
-      let g = on-ok {X = Shown} (box-field (s .clocks) line 3 (a′ .0)) _ t (d .2) in
-      let f = on-ok {X = Unit {0}} (demanded (has-room 64 (s .rows .goals)) Rows line p) _ t (g .2) in
+      let r = on-ok {X = Goal} (goal-read (stands-at letters.Goal (s .phase) (s .rows .positions .used)) (s .rows .positions .used) (s .clocks) line p ps) _ t e in
+      let a = on-ok {X = Place} (field-next line p ps) _ (r .0) (r .1) in
+      let a′ = on-ok {X = Place} (field-next line p (tail-places ps)) _ (r .0) (a .2) in
+      let b = on-ok {X = Unit {0}} (no-field line p (tail-places (tail-places ps))) _ (r .0) (a′ .2) in
+      let c = on-ok {X = Unit {0}} (demanded (stands-at letters.Goal (s .phase) (s .rows .positions .used)) Order line p) _ (r .0) (b .2) in
+      let d = on-ok {X = Shown} (number-field 1 (s .rows .positions .used) Name line 2 (a .0)) _ (r .0) (c .2) in
+      let g = on-ok {X = Shown} (box-field (s .clocks) line 3 (a′ .0)) _ (r .0) (d .2) in
+      let f = on-ok {X = Unit {0}} (demanded (has-room 64 (s .rows .goals)) Rows line p) _ t (r .2) in
       let n = field-there 1 (s .rows .positions .used) Name line 2 (a .0) (d .0) (known s sound) (d .1) in
       let w = box-there (s .clocks) line 3 (a′ .0) (g .0) (sound .counted) (g .1) in
       let shape = all ∙ ap (λ l. first ∷ l) (shape-two line p (a .0) (a′ .0) (b .0) ps (a .1) (a′ .1) (b .1)) in
@@ -224,23 +232,24 @@ module _ (s t : State) (line : ℕ) (p first : Place) (sound : Sound s) (all : f
         item = goal (record { position = number-in (d .0); area = w .marks });
         spelt = bytes-two p first (a .0) (a′ .0) shape ∙ (λ i. byte i ++ (9 ∷ (n .2 i ++ (9 ∷ w .spelt i))));
         stands = record { order = demanded-true _ Order line p (c .1); chances = λ _. sum; range = record { position = record { low = n .0; high = n .1 }; area = w .fine }; room = demanded-true _ Rows line p (f .1) };
-        leads = ok-same t (aimed (number-in (d .0)) (box-in (g .0))) (f .2) ∙ ap (aimed (number-in (d .0))) (w .is);
+        leads = ok-same t (aimed (r .0)) (f .2) ∙ ap aimed (ok-same (r .0) (record { position = number-in (d .0); area = box-in (g .0) }) (g .2) ∙ ap (λ (b : ClockBox). record { position = number-in (d .0); area = b }) (w .is));
       } where
-        aimed : ℕ → ClockBox → State
-        aimed v b = record { phase = phases.Goals; time = s .time; clocks = s .clocks; opened = s .opened; opening = s .opening; rows = with-goal (s .rows) (record { position = v; area = b }) }
+        aimed : Goal → State
+        aimed x = record { phase = phases.Goals; time = s .time; clocks = s .clocks; opened = s .opened; opening = s .opening; rows = with-goal (s .rows) x }
 
   outcome-said : first .bytes ≡ 79 ∷ [] → Ok t ≡ outcome-line s line p (tail-places (fields-of p)) → Said s t line p
   outcome-said byte e =
       let ps = tail-places (fields-of p) in
-      let a = on-ok {X = Place} (field-next line p ps) _ t e in
-      let b = on-ok {X = Place} (field-next line p (tail-places ps)) _ t (a .2) in
-      let b′ = on-ok {X = Place} (field-next line p (tail-places (tail-places ps))) _ t (b .2) in
-      let c = on-ok {X = Unit {0}} (no-field line p (tail-places (tail-places (tail-places ps)))) _ t (b′ .2) in
-      let d = on-ok {X = Unit {0}} (demanded (stands-at letters.Outcome (s .phase) (s .rows .positions .used)) Order line p) _ t (c .2) in
-      let f = on-ok {X = Shown} (number-field 0 1000 Number line 2 (a .0)) _ t (d .2) in
-      let g = on-ok {X = Shown} (number-field 1 (s .rows .positions .used) Name line 3 (b .0)) _ t (f .2) in
-      let k = on-ok {X = Shown} (clocks-field (s .clocks) line 4 (b′ .0)) _ t (g .2) in
-      let h = on-ok {X = Unit {0}} (demanded (has-room 512 (s .rows .outcomes)) Rows line p) _ t (k .2) in
+      let r = on-ok {X = Outcome} (outcome-read (stands-at letters.Outcome (s .phase) (s .rows .positions .used)) (s .rows .moves .used) (s .rows .positions .used) (s .clocks) line p ps) _ t e in
+      let a = on-ok {X = Place} (field-next line p ps) _ (r .0) (r .1) in
+      let b = on-ok {X = Place} (field-next line p (tail-places ps)) _ (r .0) (a .2) in
+      let b′ = on-ok {X = Place} (field-next line p (tail-places (tail-places ps))) _ (r .0) (b .2) in
+      let c = on-ok {X = Unit {0}} (no-field line p (tail-places (tail-places (tail-places ps)))) _ (r .0) (b′ .2) in
+      let d = on-ok {X = Unit {0}} (demanded (stands-at letters.Outcome (s .phase) (s .rows .positions .used)) Order line p) _ (r .0) (c .2) in
+      let f = on-ok {X = Shown} (number-field 0 1000 Number line 2 (a .0)) _ (r .0) (d .2) in
+      let g = on-ok {X = Shown} (number-field 1 (s .rows .positions .used) Name line 3 (b .0)) _ (r .0) (f .2) in
+      let k = on-ok {X = Shown} (clocks-field (s .clocks) line 4 (b′ .0)) _ (r .0) (g .2) in
+      let h = on-ok {X = Unit {0}} (demanded (has-room 512 (s .rows .outcomes)) Rows line p) _ t (r .2) in
       let n = field-there 0 1000 Number line 2 (a .0) (f .0) (lit< tt) (f .1) in
       let m = field-there 1 (s .rows .positions .used) Name line 3 (b .0) (g .0) (known s sound) (g .1) in
       let w = clocks-only (s .clocks) (b′ .0) (clocks-in (k .0)) (sound .counted) (listed-there line 4 (b′ .0) (clock-list (s .clocks) (b′ .0)) (k .0) (k .1)) in
@@ -249,10 +258,10 @@ module _ (s t : State) (line : ℕ) (p first : Place) (sound : Sound s) (all : f
         item = outcome (record { chance = number-in (f .0); target = number-in (g .0); clocks = w .clocks });
         spelt = bytes-three p first (a .0) (b .0) (b′ .0) shape ∙ (λ i. byte i ++ (9 ∷ (n .2 i ++ (9 ∷ (m .2 i ++ (9 ∷ w .spelt i))))));
         stands = record { order = demanded-true _ Order line p (d .1); chances = λ w. absurd (true≢false w); range = record { chance = n .1; target = record { low = m .0; high = m .1 }; clocks = w .fine }; room = demanded-true _ Rows line p (h .1) };
-        leads = ok-same t (came (number-in (f .0)) (number-in (g .0)) (clocks-in (k .0))) (h .2) ∙ ap (came (number-in (f .0)) (number-in (g .0))) (w .marks);
+        leads = ok-same t (came (r .0)) (h .2) ∙ ap came (ok-same (r .0) (record { cause = s .rows .moves .used; chance = number-in (f .0); target = number-in (g .0); resets = clocks-in (k .0) }) (k .2) ∙ ap (λ (rs : List Bool). record { cause = s .rows .moves .used; chance = number-in (f .0); target = number-in (g .0); resets = rs }) (w .marks));
       } where
-        came : ℕ → ℕ → List Bool → State
-        came c v rs = with-rows s (with-outcome (s .rows) (record { cause = s .rows .moves .used; chance = c; target = v; resets = rs }))
+        came : Outcome → State
+        came x = with-rows s (with-outcome (s .rows) x)
 
   time-said : first .bytes ≡ 84 ∷ [] → summed (bare s) ≡ true → Ok t ≡ time-line s line p (tail-places (fields-of p)) → Said s t line p
   time-said byte sum e =

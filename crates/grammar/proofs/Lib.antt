@@ -9,3 +9,4 @@ pub mod ShapeLeads
 pub mod ShapeFound
 pub mod Accepted
 pub mod FineRows
+pub mod Meanings

@@ -6,7 +6,7 @@ use Prim.Native.Nat.{ℕ, _≤_}
 use lib.Dec.{eqb}
 use Rattle.bounds.specs.declared.time.PlanTime.{PlanTime}
 use Rattle.bounds.specs.declared.time.PlanTime.the-variants.{Cycle}
-use Rattle.texts.specs.declared.progress.Header.{Header}
+use Rattle.texts.specs.declared.header.Header.{Header}
 use Rattle.texts.specs.declared.words.Letter.{Letter}
 use Rattle.texts.specs.declared.words.Letter.the-variants as letters
 use Rattle.texts.specs.declared.words.Phase.{Phase}

@@ -39,7 +39,7 @@ use Rattle.texts.specs.Lines.{settled, settled-by, unsummed, time-line, positio
 use Rattle.grammar.specs.BoxesWritten.{BoundText, spell-box, spell-clocks, OneOf, FineBound, All, tightened-by, box-by, resets-by}
 use Rattle.grammar.specs.Written.{spelled, LineText, time, position, move, outcome, goal, OutcomeText, GoalText, kind, spell, position-row, outcome-row, goal-row, FineOutcome, FineGoal}
 use Rattle.grammar.proofs.Standing.{Part, InRange, summed, Stands, with, Leads, Whole, empty, head, accepted}
-use Rattle.texts.specs.declared.progress.Header.{Header}
+use Rattle.texts.specs.declared.header.Header.{Header}
 use Rattle.texts.specs.Readers.{is-empty}
 use Rattle.texts.specs.Texts.{Ending, run, after, stopped, ending, start, read-text}
 use Rattle.texts.proofs.LineFacts.{demanded-true}

@@ -6,7 +6,7 @@ use lib.ListN.{length}
 use Rattle.std.specs.declared.result.Result.{Result}
 use Rattle.std.specs.declared.result.Result.the-variants.{Ok, Err}
 use Rattle.plans.specs.RowLists.{taken}
-use Rattle.texts.specs.declared.progress.Header.{Header}
+use Rattle.texts.specs.declared.header.Header.{Header}
 use Rattle.texts.specs.Faults.{Fault}
 use Rattle.texts.specs.PlanRows.{Tables}
 use Rattle.texts.specs.Texts.{read-text}

@@ -2,3 +2,4 @@ pub mod BoxesWritten
 pub mod Written
 pub mod Grammar
 pub mod Tables
+pub mod Meant

@@ -7,7 +7,7 @@ use Rattle.plans.specs.declared.faults.RowFault.{RowFault}
 use Rattle.plans.specs.declared.table.TablePlan.{TablePlan}
 use Rattle.plans.specs.RowChecks.{RowsFine, RowsWrong}
 use Rattle.plans.specs.RowLists.{taken}
-use Rattle.texts.specs.declared.progress.Header.{Header}
+use Rattle.texts.specs.declared.header.Header.{Header}
 use Rattle.texts.specs.Faults.{Fault}
 use Rattle.texts.specs.PlanRows.{Tables}
 

@@ -12,7 +12,7 @@ use Rattle.texts.specs.declared.«plan_rows».PlanRows.{PlanRows}
 use Rattle.texts.specs.Faults.{Fault}
 use Rattle.texts.specs.PlanRows.{Tables, SameSlices}
 use Rattle.texts.specs.Readers.{Next, whole, torn, over, next-of, rest-of, is-empty}
-use Rattle.texts.specs.declared.progress.Header.{Header}
+use Rattle.texts.specs.declared.header.Header.{Header}
 use Rattle.texts.specs.States.{State, Sound}
 use Rattle.texts.specs.Lines.{step, stepped, torn-line, finished}
 use Rattle.texts.specs.Texts.{Ending, run, after, stopped, ending}

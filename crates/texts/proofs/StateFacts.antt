@@ -13,7 +13,10 @@ use Rattle.std.specs.declared.result.Result.the-variants.{Ok, Err}
 use Rattle.bounds.specs.declared.refusal.Refusal.{Refusal}
 use Rattle.bounds.specs.declared.refusal.Refusal.the-variants.{Line, Order, Number, Name, Chance, Rows}
 use Rattle.bytes.specs.Parts.{Place, tail-places}
+use Rattle.plans.specs.declared.rows.Position.{Position}
 use Rattle.plans.specs.declared.rows.Move.{Move}
+use Rattle.plans.specs.declared.rows.Outcome.{Outcome}
+use Rattle.plans.specs.declared.rows.Goal.{Goal}
 use Rattle.plans.specs.RowLists.{Kept, put, move-row, no-move, raised}
 use Rattle.texts.specs.declared.words.Letter.{Letter}
 use Rattle.texts.specs.declared.words.Letter.the-variants as letters
@@ -23,6 +26,7 @@ use Rattle.texts.specs.Fields.{Shown, number-field, clocks-field}
 use Rattle.texts.specs.BoxFields.{box-field}
 use Rattle.texts.specs.Words.{letter-of, stands-at, kind-field, number-in, box-in}
 use Rattle.texts.specs.PlanRows.{has-room, open-sum, raised-open}
+use Rattle.texts.specs.RowReads.{position-read, move-read, outcome-read, goal-read}
 use Rattle.texts.specs.States.{State, Sound}
 use Rattle.texts.specs.Lines.{settled-by, time-line, position-line, move-line, outcome-line, goal-line, line-of, stepped}
 use Rattle.texts.proofs.LineFacts.{demanded-true, stands-outcome, field-high}
@@ -60,61 +64,69 @@ time-sound s t line p ps h e =
     let no : t .phase ≡ phases.Moves → ⊥ = λ m. let z : _≡_ {A = ℕ} 0 1 = cc in omega arith in
     record { few = rw is (h .few); counted = rw is (field-high 1 8 Number line 3 (b .0) (g .0) (g .1)); outcomes = rw is (h .outcomes); some = λ m. absurd (no m); fits = rw is (h .fits); sums = λ m. absurd (no m) }
 
+-- what a row that was read has
+pub record ReadOutcome (may : Bool) (row : Outcome) : Type 0 where
+  pub stands : may ≡ true
+  pub chance : row .chance ≤ 1000
+
+pub outcome-facts : (may : Bool) (cause known clocks line : ℕ) (p : Place) (ps : List Place) (row : Outcome) → Ok row ≡ outcome-read may cause known clocks line p ps → ReadOutcome may row
+outcome-facts may cause known n line p ps row e =
+    let a = on-ok {X = Place} (field-next line p ps) _ row e in
+    let b = on-ok {X = Place} (field-next line p (tail-places ps)) _ row (a .2) in
+    let b′ = on-ok {X = Place} (field-next line p (tail-places (tail-places ps))) _ row (b .2) in
+    let c = on-ok {X = Unit {0}} (no-field line p (tail-places (tail-places (tail-places ps)))) _ row (b′ .2) in
+    let d = on-ok {X = Unit {0}} (demanded may Order line p) _ row (c .2) in
+    let f = on-ok {X = Shown} (number-field 0 1000 Number line 2 (a .0)) _ row (d .2) in
+    let g = on-ok {X = Shown} (number-field 1 known Name line 3 (b .0)) _ row (f .2) in
+    let k = on-ok {X = Shown} (clocks-field n line 4 (b′ .0)) _ row (g .2) in
+    let is = ok-same row _ (k .2) in
+    record { stands = demanded-true may Order line p (d .1); chance = omega (arith, ap (λ (x : Outcome). x .chance) is, field-high 0 1000 Number line 2 (a .0) (f .0) (f .1)) }
+
+move-facts : (may : Bool) (known clocks line : ℕ) (p : Place) (ps : List Place) (row : Move) → Ok row ≡ move-read may known clocks line p ps → row .sum ≡ 0
+move-facts may known n line p ps row e =
+    let a = on-ok {X = Place} (field-next line p ps) _ row e in
+    let a′ = on-ok {X = Place} (field-next line p (tail-places ps)) _ row (a .2) in
+    let b = on-ok {X = Unit {0}} (no-field line p (tail-places (tail-places ps))) _ row (a′ .2) in
+    let c = on-ok {X = Unit {0}} (demanded may Order line p) _ row (b .2) in
+    let d = on-ok {X = Shown} (number-field 1 known Name line 2 (a .0)) _ row (c .2) in
+    let g = on-ok {X = Shown} (box-field n line 3 (a′ .0)) _ row (d .2) in
+    ap (λ (x : Move). x .sum) (ok-same row _ (g .2))
+
 position-sound : (s t : State) (line : ℕ) (p : Place) (ps : List Place) → Sound s → Ok t ≡ position-line s line p ps → Sound t
 position-sound s t line p ps h e =
-    let a = on-ok {X = Place} (field-next line p ps) _ t e in
-    let b = on-ok {X = Unit {0}} (no-field line p (tail-places ps)) _ t (a .2) in
-    let c = on-ok {X = Unit {0}} (demanded (stands-at letters.Position (s .phase) (s .rows .positions .used)) Order line p) _ t (b .2) in
-    let d = on-ok {X = Shown} (box-field (s .clocks) line 2 (a .0)) _ t (c .2) in
-    let f = on-ok {X = Unit {0}} (demanded (has-room 64 (s .rows .positions)) Rows line p) _ t (d .2) in
+    let r = on-ok {X = Position} (position-read (stands-at letters.Position (s .phase) (s .rows .positions .used)) (s .clocks) line p ps) _ t e in
+    let f = on-ok {X = Unit {0}} (demanded (has-room 64 (s .rows .positions)) Rows line p) _ t (r .2) in
     let room = room-parts 64 (s .rows .positions) (demanded-true (has-room 64 (s .rows .positions)) Rows line p (f .1)) in
     let is = ok-same t _ (f .2) in
     subst Sound (sym is) (record { few = omega (arith, room .0); counted = h .counted; outcomes = h .outcomes; some = h .some; fits = h .fits; sums = h .sums })
 
 move-sound : (s t : State) (line : ℕ) (p : Place) (ps : List Place) → Sound s → Ok t ≡ move-line s line p ps → Sound t
 move-sound s t line p ps h e =
-    let a = on-ok {X = Place} (field-next line p ps) _ t e in
-    let a′ = on-ok {X = Place} (field-next line p (tail-places ps)) _ t (a .2) in
-    let b = on-ok {X = Unit {0}} (no-field line p (tail-places (tail-places ps))) _ t (a′ .2) in
-    let c = on-ok {X = Unit {0}} (demanded (stands-at letters.Move (s .phase) (s .rows .positions .used)) Order line p) _ t (b .2) in
-    let d = on-ok {X = Shown} (number-field 1 (s .rows .positions .used) Name line 2 (a .0)) _ t (c .2) in
-    let g = on-ok {X = Shown} (box-field (s .clocks) line 3 (a′ .0)) _ t (d .2) in
-    let f = on-ok {X = Unit {0}} (demanded (has-room 256 (s .rows .moves)) Rows line p) _ t (g .2) in
+    let r = on-ok {X = Move} (move-read (stands-at letters.Move (s .phase) (s .rows .positions .used)) (s .rows .positions .used) (s .clocks) line p ps) _ t e in
+    let f = on-ok {X = Unit {0}} (demanded (has-room 256 (s .rows .moves)) Rows line p) _ t (r .2) in
     let room = room-parts 256 (s .rows .moves) (demanded-true (has-room 256 (s .rows .moves)) Rows line p (f .1)) in
     let is = ok-same t _ (f .2) in
-    let row : Move = record { source = number-in (d .0); guard = box-in (g .0); sum = 0 } in
-    let sum = opens (s .rows .moves) row (room .1) in
-    subst Sound (sym is) (record { few = h .few; counted = h .counted; outcomes = h .outcomes; some = λ _. omega arith; fits = simp length-set (omega (arith, room .1)); sums = λ _. omega (arith, sum) })
+    let none = move-facts (stands-at letters.Move (s .phase) (s .rows .positions .used)) (s .rows .positions .used) (s .clocks) line p ps (r .0) (r .1) in
+    let sum = opens (s .rows .moves) (r .0) (room .1) in
+    subst Sound (sym is) (record { few = h .few; counted = h .counted; outcomes = h .outcomes; some = λ _. omega arith; fits = simp length-set (omega (arith, room .1)); sums = λ _. omega (arith, sum, none) })
 
 outcome-sound : (s t : State) (line : ℕ) (p : Place) (ps : List Place) → Sound s → Ok t ≡ outcome-line s line p ps → Sound t
 outcome-sound s t line p ps h e =
-    let a = on-ok {X = Place} (field-next line p ps) _ t e in
-    let b = on-ok {X = Place} (field-next line p (tail-places ps)) _ t (a .2) in
-    let b′ = on-ok {X = Place} (field-next line p (tail-places (tail-places ps))) _ t (b .2) in
-    let c = on-ok {X = Unit {0}} (no-field line p (tail-places (tail-places (tail-places ps)))) _ t (b′ .2) in
-    let d = on-ok {X = Unit {0}} (demanded (stands-at letters.Outcome (s .phase) (s .rows .positions .used)) Order line p) _ t (c .2) in
-    let f = on-ok {X = Shown} (number-field 0 1000 Number line 2 (a .0)) _ t (d .2) in
-    let g = on-ok {X = Shown} (number-field 1 (s .rows .positions .used) Name line 3 (b .0)) _ t (f .2) in
-    let k = on-ok {X = Shown} (clocks-field (s .clocks) line 4 (b′ .0)) _ t (g .2) in
-    let i = on-ok {X = Unit {0}} (demanded (has-room 512 (s .rows .outcomes)) Rows line p) _ t (k .2) in
-    let mv = stands-outcome (s .phase) (s .rows .positions .used) (demanded-true _ Order line p (d .1)) in
+    let r = on-ok {X = Outcome} (outcome-read (stands-at letters.Outcome (s .phase) (s .rows .positions .used)) (s .rows .moves .used) (s .rows .positions .used) (s .clocks) line p ps) _ t e in
+    let i = on-ok {X = Unit {0}} (demanded (has-room 512 (s .rows .outcomes)) Rows line p) _ t (r .2) in
+    let read = outcome-facts (stands-at letters.Outcome (s .phase) (s .rows .positions .used)) (s .rows .moves .used) (s .rows .positions .used) (s .clocks) line p ps (r .0) (r .1) in
+    let mv = stands-outcome (s .phase) (s .rows .positions .used) (read .stands) in
     let one = h .some mv in
     let sums = h .sums mv in
-    let high = field-high 0 1000 Number line 2 (a .0) (f .0) (f .1) in
     let room = room-parts 512 (s .rows .outcomes) (demanded-true (has-room 512 (s .rows .outcomes)) Rows line p (i .1)) in
     let is = ok-same t _ (i .2) in
-    let sum = raises (number-in (f .0)) (s .rows .moves) one (h .fits) in
-    subst Sound (sym is) (record { few = h .few; counted = h .counted; outcomes = omega (arith, room .0); some = h .some; fits = simp length-set (h .fits); sums = λ _. omega (arith, sum, sums, high) })
+    let sum = raises (r .0 .chance) (s .rows .moves) one (h .fits) in
+    subst Sound (sym is) (record { few = h .few; counted = h .counted; outcomes = omega (arith, room .0); some = h .some; fits = simp length-set (h .fits); sums = λ _. omega (arith, sum, sums, read .chance) })
 
 goal-sound : (s t : State) (line : ℕ) (p : Place) (ps : List Place) → Sound s → Ok t ≡ goal-line s line p ps → Sound t
 goal-sound s t line p ps h e =
-    let a = on-ok {X = Place} (field-next line p ps) _ t e in
-    let a′ = on-ok {X = Place} (field-next line p (tail-places ps)) _ t (a .2) in
-    let b = on-ok {X = Unit {0}} (no-field line p (tail-places (tail-places ps))) _ t (a′ .2) in
-    let c = on-ok {X = Unit {0}} (demanded (stands-at letters.Goal (s .phase) (s .rows .positions .used)) Order line p) _ t (b .2) in
-    let d = on-ok {X = Shown} (number-field 1 (s .rows .positions .used) Name line 2 (a .0)) _ t (c .2) in
-    let g = on-ok {X = Shown} (box-field (s .clocks) line 3 (a′ .0)) _ t (d .2) in
-    let f = on-ok {X = Unit {0}} (demanded (has-room 64 (s .rows .goals)) Rows line p) _ t (g .2) in
+    let r = on-ok {X = Goal} (goal-read (stands-at letters.Goal (s .phase) (s .rows .positions .used)) (s .rows .positions .used) (s .clocks) line p ps) _ t e in
+    let f = on-ok {X = Unit {0}} (demanded (has-room 64 (s .rows .goals)) Rows line p) _ t (r .2) in
     let is = ok-same t _ (f .2) in
     let ph : t .phase ≡ phases.Goals = ap (λ (x : State). x .phase) is in
     let no : t .phase ≡ phases.Moves → ⊥ = λ m. let z : _≡_ {A = ℕ} 0 1 = cc in omega arith in

@@ -4,6 +4,7 @@ pub mod BoxFields
 pub mod Readers
 pub mod Words
 pub mod PlanRows
+pub mod RowReads
 pub mod States
 pub mod Lines
 pub mod Texts

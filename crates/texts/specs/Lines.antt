@@ -13,14 +13,14 @@ use Rattle.plans.specs.declared.rows.Move.{Move}
 use Rattle.plans.specs.declared.rows.Outcome.{Outcome}
 use Rattle.plans.specs.declared.rows.Goal.{Goal}
 use Rattle.plans.specs.RowLists.{put}
-use Rattle.texts.specs.declared.progress.Header.{Header}
+use Rattle.texts.specs.declared.header.Header.{Header}
 use Rattle.texts.specs.declared.words.Letter.{Letter}
 use Rattle.texts.specs.declared.words.Letter.the-variants as letters
 use Rattle.texts.specs.declared.words.Phase.the-variants as phases
 use Rattle.texts.specs.Faults.{Fault, refused, on, field-next, no-field, demanded, fields-of}
-use Rattle.texts.specs.Fields.{number-field, clocks-field}
-use Rattle.texts.specs.BoxFields.{box-field}
-use Rattle.texts.specs.Words.{letter-of, is-moves, is-outcome, stands-at, kind-field, time-in, number-in, box-in, clocks-in}
+use Rattle.texts.specs.Fields.{number-field}
+use Rattle.texts.specs.RowReads.{position-read, move-read, outcome-read, goal-read}
+use Rattle.texts.specs.Words.{letter-of, is-moves, is-outcome, stands-at, kind-field, time-in, number-in}
 use Rattle.texts.specs.PlanRows.{Tables, has-room, open-sum, raised-open}
 use Rattle.texts.specs.States.{State}
 
@@ -52,7 +52,7 @@ with-goal t x = record { positions = t .positions; moves = t .moves; outcomes = 
 abbrev pub with-rows : State → Tables → State
 with-rows s t = record { phase = s .phase; time = s .time; clocks = s .clocks; opened = s .opened; opening = s .opening; rows = t }
 
--- each line in the order in which it is refused: field count, words, order, fields from the left, rows
+-- each line in the order in which it is refused: field count, word, order, fields from the left, rows
 abbrev pub time-line : State → ℕ → Place → List Place → Result State Fault
 time-line s line p ps =
     on (field-next line p ps) (λ a.
@@ -65,47 +65,27 @@ time-line s line p ps =
 
 abbrev pub position-line : State → ℕ → Place → List Place → Result State Fault
 position-line s line p ps =
-    on (field-next line p ps) (λ a.
-    on (no-field line p (tail-places ps)) (λ _.
-    on (demanded (stands-at letters.Position (s .phase) (s .rows .positions .used)) Order line p) (λ _.
-    on (box-field (s .clocks) line 2 a) (λ b.
+    on (position-read (stands-at letters.Position (s .phase) (s .rows .positions .used)) (s .clocks) line p ps) (λ row.
     on (demanded (has-room 64 (s .rows .positions)) Rows line p) (λ _.
-    Ok (with-rows s (with-position (s .rows) (record { invariant = box-in b }))))))))
+    Ok (with-rows s (with-position (s .rows) row))))
 
 abbrev pub move-line : State → ℕ → Place → List Place → Result State Fault
 move-line s line p ps =
-    on (field-next line p ps) (λ a.
-    on (field-next line p (tail-places ps)) (λ c.
-    on (no-field line p (tail-places (tail-places ps))) (λ _.
-    on (demanded (stands-at letters.Move (s .phase) (s .rows .positions .used)) Order line p) (λ _.
-    on (number-field 1 (s .rows .positions .used) Name line 2 a) (λ n.
-    on (box-field (s .clocks) line 3 c) (λ b.
+    on (move-read (stands-at letters.Move (s .phase) (s .rows .positions .used)) (s .rows .positions .used) (s .clocks) line p ps) (λ row.
     on (demanded (has-room 256 (s .rows .moves)) Rows line p) (λ _.
-    Ok (record { phase = phases.Moves; time = s .time; clocks = s .clocks; opened = line; opening = p; rows = with-move (s .rows) (record { source = number-in n; guard = box-in b; sum = 0 }) }))))))))
+    Ok (record { phase = phases.Moves; time = s .time; clocks = s .clocks; opened = line; opening = p; rows = with-move (s .rows) row })))
 
 abbrev pub outcome-line : State → ℕ → Place → List Place → Result State Fault
 outcome-line s line p ps =
-    on (field-next line p ps) (λ a.
-    on (field-next line p (tail-places ps)) (λ b.
-    on (field-next line p (tail-places (tail-places ps))) (λ c.
-    on (no-field line p (tail-places (tail-places (tail-places ps)))) (λ _.
-    on (demanded (stands-at letters.Outcome (s .phase) (s .rows .positions .used)) Order line p) (λ _.
-    on (number-field 0 1000 Number line 2 a) (λ n.
-    on (number-field 1 (s .rows .positions .used) Name line 3 b) (λ m.
-    on (clocks-field (s .clocks) line 4 c) (λ k.
+    on (outcome-read (stands-at letters.Outcome (s .phase) (s .rows .positions .used)) (s .rows .moves .used) (s .rows .positions .used) (s .clocks) line p ps) (λ row.
     on (demanded (has-room 512 (s .rows .outcomes)) Rows line p) (λ _.
-    Ok (with-rows s (with-outcome (s .rows) (record { cause = s .rows .moves .used; chance = number-in n; target = number-in m; resets = clocks-in k }))))))))))))
+    Ok (with-rows s (with-outcome (s .rows) row))))
 
 abbrev pub goal-line : State → ℕ → Place → List Place → Result State Fault
 goal-line s line p ps =
-    on (field-next line p ps) (λ a.
-    on (field-next line p (tail-places ps)) (λ c.
-    on (no-field line p (tail-places (tail-places ps))) (λ _.
-    on (demanded (stands-at letters.Goal (s .phase) (s .rows .positions .used)) Order line p) (λ _.
-    on (number-field 1 (s .rows .positions .used) Name line 2 a) (λ n.
-    on (box-field (s .clocks) line 3 c) (λ b.
+    on (goal-read (stands-at letters.Goal (s .phase) (s .rows .positions .used)) (s .rows .positions .used) (s .clocks) line p ps) (λ row.
     on (demanded (has-room 64 (s .rows .goals)) Rows line p) (λ _.
-    Ok (record { phase = phases.Goals; time = s .time; clocks = s .clocks; opened = s .opened; opening = s .opening; rows = with-goal (s .rows) (record { position = number-in n; area = box-in b }) }))))))))
+    Ok (record { phase = phases.Goals; time = s .time; clocks = s .clocks; opened = s .opened; opening = s .opening; rows = with-goal (s .rows) row })))
 
 -- the line of this letter, with the fields ps after it
 abbrev pub line-of : Letter → State → ℕ → Place → List Place → Result State Fault

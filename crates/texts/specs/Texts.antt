@@ -9,7 +9,7 @@ use Rattle.std.specs.declared.result.Result.the-variants.{Ok, Err}
 use Rattle.bounds.specs.declared.refusal.Refusal.the-variants.{Rows}
 use Rattle.bounds.specs.declared.time.PlanTime.the-variants.{Cycle}
 use Rattle.bytes.specs.Parts.{Place, parted}
-use Rattle.texts.specs.declared.progress.Header.{Header}
+use Rattle.texts.specs.declared.header.Header.{Header}
 use Rattle.texts.specs.declared.words.Phase.the-variants as phases
 use Rattle.texts.specs.Faults.{Fault, refused}
 use Rattle.texts.specs.Readers.{is-empty}

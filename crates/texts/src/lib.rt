@@ -1,11 +1,14 @@
 mod boxes;
 pub mod fault;
-pub mod field;
+mod field;
+pub mod header;
 mod line;
 mod lines;
 mod numbers;
 pub mod plan_rows;
 pub mod plan_text;
-pub mod progress;
+mod progress;
 mod reader;
+mod row_reads;
+mod taking;
 mod words;

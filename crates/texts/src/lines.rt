@@ -7,23 +7,19 @@ ghost use Rattle.texts.specs.PlanRows.{tables, SameSlices};
 ghost use Rattle.texts.specs.States.{state, seen-state, Sound, KeptBy};
 ghost use Rattle.texts.specs.Lines.{time-line, position-line, move-line, outcome-line, goal-line, stepped, torn-line, finished, settled-by, settled};
 use crate::fault::TextFault;
+use crate::header::Header;
 use crate::line::Line;
 use crate::plan_rows::PlanRows;
-use crate::plan_rows::add_to_open;
-use crate::plan_rows::sum_of_open;
-use crate::plan_rows::take_row;
-use crate::progress::Header;
 use crate::progress::Progress;
+use crate::taking::add_to_open;
+use crate::taking::sum_of_open;
+use crate::taking::take_row;
 use crate::words::Letter;
 use crate::words::Phase;
 use crate::words::letter_of;
 use crate::words::stands_at;
 use bounds::refusal::Refusal;
 use bytes::parts::Parts;
-use plans::rows::Goal;
-use plans::rows::Move;
-use plans::rows::Outcome;
-use plans::rows::Position;
 
 // The open move, if there is one, may end: its chances add up.
 fn settle<'t>(progress: Progress<'t>, rows: &PlanRows) -> Result<(), TextFault<'t>>
@@ -82,27 +78,16 @@ fn position_line<'t>(
     progress: Progress<'t>,
     rows: &mut PlanRows,
     line: Line<'t>,
-    mut fields: Parts<'t>,
+    fields: Parts<'t>,
 ) -> Result<Progress<'t>, TextFault<'t>>
     requires { ⌜ Sound (state progress (tables (now rows))) ⌝ }
     ensures answer { λ r. ⌜ seen-state r (tables (now (rows .exit))) ≡ position-line (state (progress .entry) (tables (now (rows .entry)))) (line .entry .number) (place (line .entry .whole)) (ahead (fields .entry)) ⌝ }
     ensures kept { λ r. ⌜ KeptBy r (tables (now (rows .exit))) (tables (now (rows .entry))) ⌝ }
     ensures same { λ _. ⌜ SameSlices (now (rows .exit)) (now (rows .entry)) ⌝ }
 {
-    let invariant = line.next_field(&mut fields)?;
-    line.no_field(&mut fields)?;
-    line.demand(
-        stands_at(Letter::Position, progress.phase, rows.positions.len()),
-        Refusal::Order,
-    )?;
-    let invariant = line.clock_box(2, invariant, progress.clocks as u64)?;
-    let taken = take_row(
-        &mut rows.positions,
-        64,
-        Position {
-            invariant: invariant.clock_box(),
-        },
-    );
+    let may = stands_at(Letter::Position, progress.phase, rows.positions.len());
+    let row = line.position(fields, may, progress.clocks)?;
+    let taken = take_row(&mut rows.positions, 64, row);
     line.demand(taken, Refusal::Rows)?;
     Ok(progress)
 }
@@ -111,28 +96,16 @@ fn move_line<'t>(
     progress: Progress<'t>,
     rows: &mut PlanRows,
     line: Line<'t>,
-    mut fields: Parts<'t>,
+    fields: Parts<'t>,
 ) -> Result<Progress<'t>, TextFault<'t>>
     requires { ⌜ Sound (state progress (tables (now rows))) ⌝ }
     ensures answer { λ r. ⌜ seen-state r (tables (now (rows .exit))) ≡ move-line (state (progress .entry) (tables (now (rows .entry)))) (line .entry .number) (place (line .entry .whole)) (ahead (fields .entry)) ⌝ }
     ensures kept { λ r. ⌜ KeptBy r (tables (now (rows .exit))) (tables (now (rows .entry))) ⌝ }
     ensures same { λ _. ⌜ SameSlices (now (rows .exit)) (now (rows .entry)) ⌝ }
 {
-    let source = line.next_field(&mut fields)?;
-    let guard = line.next_field(&mut fields)?;
-    line.no_field(&mut fields)?;
     let known = rows.positions.len();
-    line.demand(
-        stands_at(Letter::Move, progress.phase, known),
-        Refusal::Order,
-    )?;
-    let source = line.number(2, source, 1, known, Refusal::Name)?;
-    let guard = line.clock_box(3, guard, progress.clocks as u64)?;
-    let row = Move {
-        source: source.number(),
-        guard: guard.clock_box(),
-        sum: 0,
-    };
+    let may = stands_at(Letter::Move, progress.phase, known);
+    let row = line.a_move(fields, may, known, progress.clocks)?;
     let taken = take_row(&mut rows.moves, 256, row);
     line.demand(taken, Refusal::Rows)?;
     Ok(Progress {
@@ -147,35 +120,19 @@ fn outcome_line<'t>(
     progress: Progress<'t>,
     rows: &mut PlanRows,
     line: Line<'t>,
-    mut fields: Parts<'t>,
+    fields: Parts<'t>,
 ) -> Result<Progress<'t>, TextFault<'t>>
     requires { ⌜ Sound (state progress (tables (now rows))) ⌝ }
     ensures answer { λ r. ⌜ seen-state r (tables (now (rows .exit))) ≡ outcome-line (state (progress .entry) (tables (now (rows .entry)))) (line .entry .number) (place (line .entry .whole)) (ahead (fields .entry)) ⌝ }
     ensures kept { λ r. ⌜ KeptBy r (tables (now (rows .exit))) (tables (now (rows .entry))) ⌝ }
     ensures same { λ _. ⌜ SameSlices (now (rows .exit)) (now (rows .entry)) ⌝ }
 {
-    let chance = line.next_field(&mut fields)?;
-    let target = line.next_field(&mut fields)?;
-    let resets = line.next_field(&mut fields)?;
-    line.no_field(&mut fields)?;
     let known = rows.positions.len();
-    line.demand(
-        stands_at(Letter::Outcome, progress.phase, known),
-        Refusal::Order,
-    )?;
-    let chance = line.number(2, chance, 0, 1000, Refusal::Number)?;
-    let target = line.number(3, target, 1, known, Refusal::Name)?;
-    let resets = line.clock_list(4, resets, progress.clocks as u64)?;
-    let chance = chance.number() as u32;
-    let row = Outcome {
-        cause: rows.moves.len(),
-        chance,
-        target: target.number(),
-        resets: resets.clocks(),
-    };
+    let may = stands_at(Letter::Outcome, progress.phase, known);
+    let row = line.outcome(fields, may, rows.moves.len(), known, progress.clocks)?;
     let taken = take_row(&mut rows.outcomes, 512, row);
     line.demand(taken, Refusal::Rows)?;
-    add_to_open(&mut rows.moves, chance);
+    add_to_open(&mut rows.moves, row.chance);
     Ok(progress)
 }
 
@@ -183,27 +140,16 @@ fn goal_line<'t>(
     progress: Progress<'t>,
     rows: &mut PlanRows,
     line: Line<'t>,
-    mut fields: Parts<'t>,
+    fields: Parts<'t>,
 ) -> Result<Progress<'t>, TextFault<'t>>
     requires { ⌜ Sound (state progress (tables (now rows))) ⌝ }
     ensures answer { λ r. ⌜ seen-state r (tables (now (rows .exit))) ≡ goal-line (state (progress .entry) (tables (now (rows .entry)))) (line .entry .number) (place (line .entry .whole)) (ahead (fields .entry)) ⌝ }
     ensures kept { λ r. ⌜ KeptBy r (tables (now (rows .exit))) (tables (now (rows .entry))) ⌝ }
     ensures same { λ _. ⌜ SameSlices (now (rows .exit)) (now (rows .entry)) ⌝ }
 {
-    let position = line.next_field(&mut fields)?;
-    let area = line.next_field(&mut fields)?;
-    line.no_field(&mut fields)?;
     let known = rows.positions.len();
-    line.demand(
-        stands_at(Letter::Goal, progress.phase, known),
-        Refusal::Order,
-    )?;
-    let position = line.number(2, position, 1, known, Refusal::Name)?;
-    let area = line.clock_box(3, area, progress.clocks as u64)?;
-    let row = Goal {
-        position: position.number(),
-        area: area.clock_box(),
-    };
+    let may = stands_at(Letter::Goal, progress.phase, known);
+    let row = line.goal(fields, may, known, progress.clocks)?;
     let taken = take_row(&mut rows.goals, 64, row);
     line.demand(taken, Refusal::Rows)?;
     Ok(Progress {

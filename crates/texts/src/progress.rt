@@ -10,10 +10,3 @@ pub struct Progress<'t> {
     pub clocks: usize,
     pub opening: Line<'t>,
 }
-
-// What the line `T` of a plan says.
-#[derive(Clone, Copy)]
-pub struct Header {
-    pub time: PlanTime,
-    pub clocks: usize,
-}

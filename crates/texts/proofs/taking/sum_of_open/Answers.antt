@@ -4,7 +4,7 @@ use lib.ListN.{getD}
 use Rattle.plans.specs.declared.rows.Move.{Move}
 use Rattle.plans.specs.RowLists.{no-move}
 use Rattle.plans.proofs.Taken.{row-is}
-use Rattle.texts.proofs.plan_rows.sum_of_open.Needs as need
+use Rattle.texts.proofs.taking.sum_of_open.Needs as need
 
 pub returns-in-Ok : need.returns-in-Ok
 returns-in-Ok c =
