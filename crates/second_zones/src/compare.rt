@@ -1,0 +1,102 @@
+use crate::rounds::Held;
+use crate::rounds::PlainPlan;
+use crate::rounds::play;
+use crate::text::line_of;
+use bounds::time::PlanDomain as _;
+use bounds::time::TimeDomain;
+use distances::search::Search;
+use entries::clock_count::ClockCount;
+use entries::entry::Entry;
+use plans::plan::Plan;
+use plans::table::PlanOfTable as _;
+use plans::table::TablePlan;
+use std::alloc::Global;
+use std::error::AnyError;
+use stores::row_store::RowStore;
+use stores::row_store::RowStored as _;
+use stores::store::Store;
+use zones::zone::Zone;
+
+// How many rounds are compared, unless the search closes before.
+const ROUNDS: u64 = 8;
+
+// How many entries there is room for.
+const ROOM: usize = 400;
+
+// Plays the plan back by both libraries, and answers how many entries they have; they differ in none.
+pub fn compare(heap: Global, plan: &PlainPlan, clocks: usize) -> Result<usize, AnyError> {
+    let held = play(heap, plan, ROUNDS)?;
+    compare_table(heap, plan.time, plan, clocks, held.as_slice())
+}
+
+fn compare_table<T: TimeDomain + Copy>(
+    heap: Global,
+    time: T,
+    plan: &PlainPlan,
+    clocks: usize,
+    held: &[Held],
+) -> Result<usize, AnyError> {
+    match TablePlan::new(
+        time,
+        clocks,
+        plan.positions,
+        plan.moves,
+        plan.outcomes,
+        plan.goals,
+    ) {
+        Ok(table) => compare_plan(heap, table, held),
+        Err(_) => Err("the rows are no plan".into()),
+    }
+}
+
+fn compare_plan<P: Plan + Drop>(heap: Global, plan: P, held: &[Held]) -> Result<usize, AnyError> {
+    match ClockCount::new(plan.clocks()) {
+        Ok(clocks) => {
+            let mut rows = [Entry {
+                position: 1,
+                round: 0,
+                zone: Zone::all(),
+            }; ROOM];
+            let mut search = Search::new(plan, RowStore::new(clocks, &mut rows));
+            for _ in 0..ROUNDS {
+                if search.widen().is_err() {
+                    break;
+                }
+            }
+            compare_search(heap, &search, held, clocks.get())
+        }
+        Err(_) => Err("no such clock count".into()),
+    }
+}
+
+fn compare_search<P: Plan, S: Store>(
+    heap: Global,
+    search: &Search<P, S>,
+    held: &[Held],
+    clocks: usize,
+) -> Result<usize, AnyError> {
+    let mut buffer = [0; 1200];
+    for (k, one) in held.iter().enumerate() {
+        let line = line_of(heap, one, clocks)?;
+        match search.list(k + 1, &mut buffer) {
+            Ok(length) => same(&buffer, length, line.as_bytes())?,
+            Err(_) => return Err("the second library has more entries".into()),
+        }
+    }
+    if search.list(held.len() + 1, &mut buffer).is_ok() {
+        return Err("the second library has fewer entries".into());
+    }
+    Ok(held.len())
+}
+
+fn same(buffer: &[u8], length: usize, line: &[u8]) -> Result<(), AnyError> {
+    match buffer.get(0..length) {
+        Some(listed) => {
+            if listed == line {
+                return Ok(());
+            }
+            Err("an entry differs".into())
+        }
+        None => Err("an entry is too long".into()),
+    }
+}

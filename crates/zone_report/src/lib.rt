@@ -1,0 +1,126 @@
+use bounds::refusal::Refusal;
+use bounds::time::PlanDomain as _;
+use bounds::time::TimeDomain;
+use distances::search::Search;
+use entries::clock_count::ClockCount;
+use grammar::read_written_plan;
+use grammar::table::table_over;
+use plans::plan::Plan;
+use plans::rows::Goal;
+use plans::rows::Move;
+use plans::rows::Outcome;
+use plans::rows::Position;
+use plans::table::PlanOfTable as _;
+use reports::write_fault;
+use reports::write_status;
+use std::io;
+use std::io::Write;
+use stores::line_store::LineStore;
+use stores::line_store::LineStored as _;
+use stores::store::Store;
+use texts::plan_rows::PlanRows;
+use zones::boxes::ClockBox;
+use zones::boxes::Side;
+
+const FREE: Side = Side {
+    lower: None,
+    upper: None,
+};
+
+const ANYWHERE: ClockBox = ClockBox { sides: [FREE; 8] };
+
+// How many bytes the store of a printed search has.
+const STORE_BYTES: usize = 32_768;
+
+// Reads a plan from its text, widens a search over it until it is refused, and prints the lines of the entries and where the search stands.
+// Of a text that is refused it prints how and where.
+pub fn print_text(rt: &LibcRuntime, text: &[u8]) -> io::Result<()> {
+    let mut positions = [Position {
+        invariant: ANYWHERE,
+    }; 64];
+    let mut moves = [Move {
+        source: 0,
+        guard: ANYWHERE,
+        sum: 0,
+    }; 256];
+    let mut outcomes = [Outcome {
+        cause: 0,
+        chance: 0,
+        target: 0,
+        resets: [false; 8],
+    }; 512];
+    let mut goals = [Goal {
+        position: 0,
+        area: ANYWHERE,
+    }; 64];
+    let mut rows = PlanRows::over(&mut positions, &mut moves, &mut outcomes, &mut goals);
+    match read_written_plan(text, &mut rows) {
+        Ok(header) => print_rows(rt, header.time, header.clocks, &rows),
+        Err(fault) => print_fault(rt, fault.refusal, fault.line),
+    }
+}
+
+// The same for a plan in rows. Rows that were read from a text pass the row check, so nothing is refused here.
+fn print_rows<T: TimeDomain + Copy>(
+    rt: &LibcRuntime,
+    time: T,
+    clocks: usize,
+    rows: &PlanRows,
+) -> io::Result<()> {
+    match table_over(time, clocks, rows) {
+        Ok(plan) => print_plan(rt, plan),
+        Err(fault) => print_fault(rt, fault.refusal, 0),
+    }
+}
+
+// The same for any plan.
+pub fn print_plan<P: Plan + Drop>(rt: &LibcRuntime, plan: P) -> io::Result<()> {
+    match ClockCount::new(plan.clocks()) {
+        Ok(clocks) => {
+            let mut bytes = [0; STORE_BYTES];
+            let store = LineStore::new(clocks, &mut bytes);
+            let mut search = Search::new(plan, store);
+            print_search(rt, &mut search)
+        }
+        Err(why) => print_fault(rt, why, 0),
+    }
+}
+
+// The same for any search.
+pub fn print_search<P: Plan, S: Store>(
+    rt: &LibcRuntime,
+    search: &mut Search<P, S>,
+) -> io::Result<()> {
+    for _ in 0..u64::MAX {
+        if search.widen().is_err() {
+            break;
+        }
+    }
+    let mut buffer = [0; 1200];
+    for k in 1..usize::MAX {
+        match search.list(k, &mut buffer) {
+            Ok(length) => print_line(rt, &buffer, length)?,
+            Err(_) => break,
+        }
+    }
+    match write_status(search.phase(), search.rounds(), &mut buffer) {
+        Ok(length) => print_line(rt, &buffer, length),
+        Err(_) => Ok(()),
+    }
+}
+
+fn print_fault(rt: &LibcRuntime, refusal: Refusal, line: usize) -> io::Result<()> {
+    let mut buffer = [0; 1200];
+    match write_fault(refusal, line, &mut buffer) {
+        Ok(length) => print_line(rt, &buffer, length),
+        Err(_) => Ok(()),
+    }
+}
+
+// Prints the first bytes of the buffer.
+fn print_line(rt: &LibcRuntime, buffer: &[u8], length: usize) -> io::Result<()> {
+    match buffer.get(0..length) {
+        Some(line) => rt.stdout().write_all(line),
+        None => Ok(()),
+    }
+}
