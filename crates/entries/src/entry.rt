@@ -7,7 +7,7 @@ use crate::places::free;
 use crate::places::zone_bounds;
 use zones::zone::Zone;
 
-// What the store of a search keeps: a zone of states at a position, and the round that found it.
+// What a store keeps: a zone of states at a position, and the round in which it was found.
 #[derive(Clone, Copy)]
 pub struct Entry {
     pub position: usize,

@@ -12,6 +12,8 @@ use entries::entry::Entry;
 
 mod keeping;
 
+pub use keeping::LineStored;
+
 // A store that keeps each entry as its line in a lent slice of bytes, a unit a byte.
 // The first `used` bytes are the lines of its `count` entries; those behind them hold what they held.
 #[derive(Drop)]
