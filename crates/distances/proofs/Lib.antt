@@ -3,3 +3,4 @@ pub mod Offering
 pub mod Turning
 pub mod Finding
 pub mod Searched
+pub mod Asked
