@@ -4,3 +4,4 @@ pub mod Turning
 pub mod Finding
 pub mod Searched
 pub mod Asked
+pub mod Means

@@ -14,7 +14,8 @@ use Rattle.rounds.specs.declared.replies.Phase.{Phase}
 use Rattle.rounds.specs.declared.replies.Phase.the-variants.{Open, Closed, Stopped, Unfit}
 use Rattle.rounds.specs.declared.replies.Answer.{Answer}
 use Rattle.rounds.specs.Rounds.{Entry as Row, round}
-use Rattle.rounds.specs.Searches.{Search, Reply, Step, step, ended, set-up, askable, asked}
+use Rattle.rounds.specs.Searches.{Search, Reply, Step, step, ended, set-up, askable, asked, Replied}
+use Rattle.rounds.specs.Stands.{Stands}
 use Rattle.rounds.specs.Searches.Call.{widen, ask, list}
 use Rattle.rounds.specs.Searches.Reply.{widened, told, listed, refused}
 use Rattle.distances.specs.Rows.{rows}
@@ -66,3 +67,11 @@ AskSays M n ph es m f D p rs r = Fit M n ph es → (need′ : Row → ℕ) → a
 -- of a search that is not unfit
 abbrev pub TellSays : PlanMeaning → ℕ → Phase → List Entry → ℕ → ℕ → ℕ → ℕ → List ℕ → Result Answer Refusal → Type 0
 TellSays M n ph es m f D p rs r = Ready M n es → ask-reply r ≡ asked M (view ph es m f) D p rs
+
+-- what stands before a widen stands after it
+abbrev pub WidenMeans : PlanMeaning → ℕ → (Entry → ℕ) → Phase → List Entry → ℕ → Phase → List Entry → ℕ → Type 0
+WidenMeans M n need ph es f ph′ fs f′ = Fit M n ph es → f < 18446744073709551615 → (need′ : Row → ℕ) → Agrees need′ need → ∥ Stands M (rows es) f ph ∥₁ → ∥ Stands M (rows fs) f′ ph′ ∥₁
+
+-- and then an answer says of routes what it should, and a refusal comes only where it should
+abbrev pub AskMeans : PlanMeaning → ℕ → Phase → List Entry → ℕ → ℕ → ℕ → ℕ → List ℕ → Result Answer Refusal → Type 0
+AskMeans M n ph es m f D p rs r = Fit M n ph es → ∥ Stands M (rows es) f ph ∥₁ → (need′ : Row → ℕ) → ∥ Replied M need′ (view ph es m f) f (ask D p rs) (ask-reply r) ∥₁

@@ -1,6 +1,6 @@
 ghost use mathlib.Core.Path.{_≡_};
 ghost use Rattle.rounds.specs.declared.replies.Phase.the-variants.{Open};
-ghost use Rattle.distances.specs.Searching.{AdvanceSays, WidenSays, NewSays, AskableTells, TellSays, AskSays};
+ghost use Rattle.distances.specs.Searching.{AdvanceSays, WidenSays, WidenMeans, NewSays, AskableTells, TellSays, AskSays, AskMeans};
 use crate::find::find;
 use crate::turns::do_round;
 use bounds::refusal::Refusal;
@@ -95,6 +95,7 @@ impl<P: Plan, S: Store> Search<P, S> {
     // Widens by a round, and answers how many are finished; refused by Phase once closed or stopped, and if unfit.
     pub fn widen(&mut self) -> Result<u64, Refusal>
         ensures says { λ r. ⌜ WidenSays (P·Plan .meaning (now (self .entry) .plan)) (S·Store .dimension (now (self .entry) .store)) (S·Store .need (S·Store .dimension (now (self .entry) .store))) (now (self .entry) .phase) (S·Store .entries (now (self .entry) .store)) (S·Store .room (now (self .entry) .store)) (now (self .entry) .rounds) r (now (self .exit) .phase) (S·Store .entries (now (self .exit) .store)) (S·Store .room (now (self .exit) .store)) (now (self .exit) .rounds) ⌝ }
+        ensures means { λ _. ⌜ WidenMeans (P·Plan .meaning (now (self .entry) .plan)) (S·Store .dimension (now (self .entry) .store)) (S·Store .need (S·Store .dimension (now (self .entry) .store))) (now (self .entry) .phase) (S·Store .entries (now (self .entry) .store)) (now (self .entry) .rounds) (now (self .exit) .phase) (S·Store .entries (now (self .exit) .store)) (now (self .exit) .rounds) ⌝ }
         ensures plan { λ _. ⌜ now (self .exit) .plan ≡ now (self .entry) .plan ⌝ }
         ensures clocks { λ _. ⌜ S·Store .dimension (now (self .exit) .store) ≡ S·Store .dimension (now (self .entry) .store) ⌝ }
     {
@@ -127,7 +128,8 @@ impl<P: Plan, S: Store> Search<P, S> {
 
     // How far the state is from a goal; refused by Phase if unfit, then by State.
     pub fn ask(&self, position: usize, state: &State) -> Result<Answer, Refusal>
-        ensures { λ r. ⌜ AskSays (P·Plan .meaning (now (self .entry) .plan)) (S·Store .dimension (now (self .entry) .store)) (now (self .entry) .phase) (S·Store .entries (now (self .entry) .store)) (S·Store .room (now (self .entry) .store)) (now (self .entry) .rounds) (now (state .entry) .scale) position (now (now (state .entry) .readings)) r ⌝ }
+        ensures says { λ r. ⌜ AskSays (P·Plan .meaning (now (self .entry) .plan)) (S·Store .dimension (now (self .entry) .store)) (now (self .entry) .phase) (S·Store .entries (now (self .entry) .store)) (S·Store .room (now (self .entry) .store)) (now (self .entry) .rounds) (now (state .entry) .scale) position (now (now (state .entry) .readings)) r ⌝ }
+        ensures means { λ r. ⌜ AskMeans (P·Plan .meaning (now (self .entry) .plan)) (S·Store .dimension (now (self .entry) .store)) (now (self .entry) .phase) (S·Store .entries (now (self .entry) .store)) (S·Store .room (now (self .entry) .store)) (now (self .entry) .rounds) (now (state .entry) .scale) position (now (now (state .entry) .readings)) r ⌝ }
     {
         match self.phase {
             Phase::Open => self.tell(position, state),
