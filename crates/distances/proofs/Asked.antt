@@ -40,6 +40,7 @@ module _ (M : PlanMeaning) (n : ℕ) (es : List Entry) (m : ℕ) where
   unfit e = record {
     is = ap (λ p. view p es m 0) (sym (cond-false (eqb n (M .clocks) && eqb (length (rows es)) 0) Open Unfit e));
     fit = λ d. absurd (d refl);
+    stands = tt;
   }
 
   pub other-clocks : (n ≡ M .clocks → ⊥) → NewSays M n es m Unfit 0
@@ -52,6 +53,11 @@ module _ (M : PlanMeaning) (n : ℕ) (es : List Entry) (m : ℕ) where
   all-fit c z = record {
     is = ap (λ p. view p es m 0) (sym (cond-true (eqb n (M .clocks) && eqb (length (rows es)) 0) Open Unfit (and-from (eqb n (M .clocks)) (eqb (length (rows es)) 0) (eq-eqb n (M .clocks) c) (eq-eqb (length (rows es)) 0 (many-rows es ∙ z)))));
     fit = λ d. record { clocks = c; fits = λ k h. absurd (omega arith) };
+    stands = (record {
+      good = record { fits = λ k h. absurd (omega (arith, many-rows es)); real = λ k h. absurd (omega (arith, many-rows es)); ordered = λ i j a h. absurd (omega (arith, many-rows es)); at-most = λ k h. absurd (omega (arith, many-rows es)) };
+      based = λ h. absurd (omega arith);
+      stepped = λ k h. absurd (omega (arith, many-rows es));
+    }, λ k h. absurd (omega (arith, many-rows es)));
   }
 
 -- ---- states

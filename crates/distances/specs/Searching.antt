@@ -55,6 +55,7 @@ WidenSays M n need ph es m f r ph′ fs k f′ = Fit M n ph es → f < 184467440
 pub record NewSays (M : PlanMeaning) (n : ℕ) (es : List Entry) (m : ℕ) (ph : Phase) (f : ℕ) : Type 0 where
   pub is : view ph es m f ≡ set-up (eqb n (M .clocks)) (rows es) m
   pub fit : Fit M n ph es
+  pub stands : Stands M (rows es) 0 ph
 
 -- whether a state is one of the plan that is taken
 abbrev pub AskableTells : PlanMeaning → ℕ → ℕ → List ℕ → Bool → Type 0
