@@ -25,7 +25,7 @@ use Rattle.rounds.specs.declared.replies.Answer.the-variants.{Distance, NoRoute
 use Rattle.rounds.specs.Rounds.{Entry as Row}
 use Rattle.rounds.specs.Searches.{Askable, askable, answer, asked, find, step, set-up}
 use Rattle.rounds.specs.Searches.Call.{ask}
-use Rattle.rounds.specs.Searches.Reply.{told} 
+use Rattle.rounds.specs.Searches.Reply.{told}
 use Rattle.rounds.proofs.Runs.{askable-yes, yes-askable}
 use Rattle.distances.specs.Rows.{rows}
 use Rattle.distances.specs.Turns.{Ready}
@@ -53,11 +53,14 @@ module _ (M : PlanMeaning) (n : ℕ) (es : List Entry) (m : ℕ) where
   all-fit c z = record {
     is = ap (λ p. view p es m 0) (sym (cond-true (eqb n (M .clocks) && eqb (length (rows es)) 0) Open Unfit (and-from (eqb n (M .clocks)) (eqb (length (rows es)) 0) (eq-eqb n (M .clocks) c) (eq-eqb (length (rows es)) 0 (many-rows es ∙ z)))));
     fit = λ d. record { clocks = c; fits = λ k h. absurd (omega arith) };
-    stands = (record {
-      good = record { fits = λ k h. absurd (omega (arith, many-rows es)); real = λ k h. absurd (omega (arith, many-rows es)); ordered = λ i j a h. absurd (omega (arith, many-rows es)); at-most = λ k h. absurd (omega (arith, many-rows es)) };
-      based = λ h. absurd (omega arith);
-      stepped = λ k h. absurd (omega (arith, many-rows es));
-    }, λ k h. absurd (omega (arith, many-rows es)));
+    stands = (
+      record {
+        good = record { fits = λ k h. absurd (omega (arith, many-rows es)); real = λ k h. absurd (omega (arith, many-rows es)); ordered = λ i j a h. absurd (omega (arith, many-rows es)); at-most = λ k h. absurd (omega (arith, many-rows es)) };
+        based = λ h. absurd (omega arith);
+        stepped = λ k h. absurd (omega (arith, many-rows es));
+      },
+      λ k h. absurd (omega (arith, many-rows es)),
+    );
   }
 
 -- ---- states

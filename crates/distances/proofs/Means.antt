@@ -26,12 +26,12 @@ use Rattle.distances.specs.Searching.{view, ask-reply, WidenSays, WidenMeans, 
 module _ (M : PlanMeaning) (formed : WellFormed M) (n : ℕ) where
   pub widen-means : (need : Entry → ℕ) (ph : Phase) (es : List Entry) (m f : ℕ) (r : Result ℕ Refusal) (ph′ : Phase) (fs : List Entry) (k f′ : ℕ) → WidenSays M n need ph es m f r ph′ fs k f′ → WidenMeans M n need ph es f ph′ fs f′
   widen-means need ph es m f r ph′ fs k f′ s fit small need′ a st =
-    ∥∥₁-elim st ∥∥₁-prop (λ w. ∥∥₁-map (formed .lawful) (λ K.
+      ∥∥₁-elim st ∥∥₁-prop (λ w. ∥∥₁-map (formed .lawful) (λ K.
       subst (λ (x : Search). Stands M (x .entries) (x .rounds) (x .phase)) (sym (s fit small need′ a .0 .next))
       (step-fine M need′ (round-kept M (laws M K formed) need′) (answers-say M need′) (view ph es m f) w widen .stands)))
 
   pub ask-means : (ph : Phase) (es : List Entry) (m f D p : ℕ) (rs : List ℕ) (r : Result Answer Refusal) → AskSays M n ph es m f D p rs r → AskMeans M n ph es m f D p rs r
   ask-means ph es m f D p rs r s fit st need′ =
-    ∥∥₁-elim st ∥∥₁-prop (λ w. ∥∥₁-map (formed .lawful) (λ K.
+      ∥∥₁-elim st ∥∥₁-prop (λ w. ∥∥₁-map (formed .lawful) (λ K.
       subst (Replied M need′ (view ph es m f) f (ask D p rs)) (sym (s fit need′))
       (step-fine M need′ (round-kept M (laws M K formed) need′) (answers-say M need′) (view ph es m f) w (ask D p rs) .lawful)))

@@ -45,11 +45,11 @@ pub record Stepped (t : Step) (r : Reply) (s : Search) : Type 0 where
 -- an open search does its round
 abbrev pub AdvanceSays : PlanMeaning → ℕ → (Entry → ℕ) → List Entry → ℕ → ℕ → Result ℕ Refusal → Phase → List Entry → ℕ → ℕ → Type 0
 AdvanceSays M n need es m f r ph′ fs k f′ = Ready M n es → f < 18446744073709551615 → (need′ : Row → ℕ) → Agrees need′ need
-  → Stepped (ended f (length (rows es)) (round M need′ f (rows es) m)) (widen-reply r) (view ph′ fs k f′) × Ready M n fs
+    → Stepped (ended f (length (rows es)) (round M need′ f (rows es) m)) (widen-reply r) (view ph′ fs k f′) × Ready M n fs
 
 abbrev pub WidenSays : PlanMeaning → ℕ → (Entry → ℕ) → Phase → List Entry → ℕ → ℕ → Result ℕ Refusal → Phase → List Entry → ℕ → ℕ → Type 0
 WidenSays M n need ph es m f r ph′ fs k f′ = Fit M n ph es → f < 18446744073709551615 → (need′ : Row → ℕ) → Agrees need′ need
-  → Stepped (step M need′ (view ph es m f) widen) (widen-reply r) (view ph′ fs k f′) × Fit M n ph′ fs
+    → Stepped (step M need′ (view ph es m f) widen) (widen-reply r) (view ph′ fs k f′) × Fit M n ph′ fs
 
 -- a search newly set up
 pub record NewSays (M : PlanMeaning) (n : ℕ) (es : List Entry) (m : ℕ) (ph : Phase) (f : ℕ) : Type 0 where

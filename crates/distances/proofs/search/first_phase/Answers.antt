@@ -11,4 +11,4 @@ pub returns : need.returns
 returns g c =
     let s = c .args .store .now in
     all-fit (g .P·Plan .meaning (c .args .plan .now)) (g .S·Store .dimension s) (g .S·Store .entries s) (g .S·Store .room s)
-      (sym (c .clocks .ensures) ∙ sym (c .get .ensures) ∙ c .if-get-clocks .left ∙ c .clocks-2 .ensures) (sym (c .count .ensures) ∙ c .if-count-ne0 .left)
+    (sym (c .clocks .ensures) ∙ sym (c .get .ensures) ∙ c .if-get-clocks .left ∙ c .clocks-2 .ensures) (sym (c .count .ensures) ∙ c .if-count-ne0 .left)

@@ -23,10 +23,10 @@ returns-in-Err g c =
     let s = c .args .state .now in
     let M = g .P·Plan .meaning (c .args .plan .now) in
     not-askable M (s .scale) (c .args .position) (s .readings .now)
-      (λ a. c .in-Err .ensures tt .1 (askable-good M (s .scale) (c .args .position) (s .readings .now) (g .P·Plan .sound (c .args .plan .now)) _ (c .time-time .ensures .allows) a))
+    (λ a. c .in-Err .ensures tt .1 (askable-good M (s .scale) (c .args .position) (s .readings .now) (g .P·Plan .sound (c .args .plan .now)) _ (c .time-time .ensures .allows) a))
 
 pub returns-in-Ok : need.returns-in-Ok
 returns-in-Ok g c =
     let s = c .args .state .now in
     good-askable (g .P·Plan .meaning (c .args .plan .now)) (s .scale) (c .args .position) (s .readings .now) _ (c .time-time .ensures .allows)
-      (let h = c .if-position-lt1 .left in omega arith) (let h = c .if-position-positions .left in omega (arith, c .positions .ensures)) (c .if-state-clocks .left ∙ c .clocks .ensures) (c .in-Ok .ensures tt)
+    (let h = c .if-position-lt1 .left in omega arith) (let h = c .if-position-positions .left in omega (arith, c .positions .ensures)) (c .if-state-clocks .left ∙ c .clocks .ensures) (c .in-Ok .ensures tt)
