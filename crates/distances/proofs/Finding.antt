@@ -34,13 +34,13 @@ hold-tells allows normal D rs xs b s z g = sym (ap (holds-zone xs D) (fun-ext (c
 module _ (allows : ℕ → Bool) (normal : UpperBound → UpperBound) (es : List Entry) (D p : ℕ) (rs : List ℕ) (k : ℕ) (e : Entry) (i : Item es (k + 1) (Ok e)) where
   pub not-here : (e .position ≡ p → ⊥) → EntryFinds allows normal es D p rs k None
   not-here n h zs g = sym (ap (found-in D p rs) (row-read es k e h i)
-    ∙ ap (λ b. cond (b && holds-state (e .zone .codes) D (value-of rs)) (Some (e .round)) None) (ne-eqb (e .position) p n))
+      ∙ ap (λ b. cond (b && holds-state (e .zone .codes) D (value-of rs)) (Some (e .round)) None) (ne-eqb (e .position) p n))
 
   module _ (q : e .position ≡ p) (b : Bool) (t : HoldTells allows normal D rs (e .zone .codes) b) where
     same : (h : k < length es) → Zones normal es → Good allows D rs → found-in D p rs (entry-at (rows es) k) ≡ cond b (Some (e .round)) None
     same h zs g = ap (found-in D p rs) (row-read es k e h i)
-      ∙ ap (λ x. cond (x && holds-state (e .zone .codes) D (value-of rs)) (Some (e .round)) None) (eq-eqb (e .position) p q)
-      ∙ ap (λ x. cond x (Some (e .round)) None) (sym (t (subst (λ (x : Row). ZoneOf normal (x .zone)) (row-read es k e h i) (zs k h)) g))
+        ∙ ap (λ x. cond (x && holds-state (e .zone .codes) D (value-of rs)) (Some (e .round)) None) (eq-eqb (e .position) p q)
+        ∙ ap (λ x. cond x (Some (e .round)) None) (sym (t (subst (λ (x : Row). ZoneOf normal (x .zone)) (row-read es k e h i) (zs k h)) g))
 
     pub here-held : b ≡ true → EntryFinds allows normal es D p rs k (Some (e .round))
     here-held y h zs g = sym (same h zs g ∙ cond-true b (Some (e .round)) None y)
@@ -57,7 +57,7 @@ module _ (allows : ℕ → Bool) (normal : UpperBound → UpperBound) (es : List
   sought-none zs g = refl
 
   next : (i : ℕ) → i < length es → find (drop i (rows es)) D p (value-of rs)
-    ≡ cond (eqb (entry-at (rows es) i .position) p && holds-state (entry-at (rows es) i .zone) D (value-of rs)) (Some (entry-at (rows es) i .round)) (find (drop (i + 1) (rows es)) D p (value-of rs))
+      ≡ cond (eqb (entry-at (rows es) i .position) p && holds-state (entry-at (rows es) i .zone) D (value-of rs)) (Some (entry-at (rows es) i .round)) (find (drop (i + 1) (rows es)) D p (value-of rs))
   unfolding find
   next i h = at-drop-more (λ xs. find xs D p (value-of rs)) (rows es) i no-entry (omega (arith, many-rows es))
 
@@ -71,16 +71,16 @@ module _ (allows : ℕ → Bool) (normal : UpperBound → UpperBound) (es : List
 
   pub sought-more : (i : ℕ) → i < length es → EntryFinds allows normal es D p rs i None → Sought allows normal es D p rs i → Sought allows normal es D p rs (i + 1)
   sought-more i h c l zs g =
-    let e = entry-at (rows es) i in
-    let t = eqb (e .position) p && holds-state (e .zone) D (value-of rs) in
-    sym (cond-false t (Some (e .round)) (find (drop (i + 1) (rows es)) D p (value-of rs)) (none-apart t (e .round) (c h zs g))) ∙ sym (next i h) ∙ l zs g
+      let e = entry-at (rows es) i in
+      let t = eqb (e .position) p && holds-state (e .zone) D (value-of rs) in
+      sym (cond-false t (Some (e .round)) (find (drop (i + 1) (rows es)) D p (value-of rs)) (none-apart t (e .round) (c h zs g))) ∙ sym (next i h) ∙ l zs g
 
   pub sought-hit : (i d : ℕ) → i < length es → EntryFinds allows normal es D p rs i (Some d) → Sought allows normal es D p rs i → FindTells allows normal es D p rs (Some d)
   sought-hit i d h c l zs g =
-    let e = entry-at (rows es) i in
-    let t = eqb (e .position) p && holds-state (e .zone) D (value-of rs) in
-    let a = some-apart d t (e .round) (c h zs g) in
-    ap Some (a .1) ∙ sym (cond-true t (Some (e .round)) (find (drop (i + 1) (rows es)) D p (value-of rs)) (a .0)) ∙ sym (next i h) ∙ l zs g
+      let e = entry-at (rows es) i in
+      let t = eqb (e .position) p && holds-state (e .zone) D (value-of rs) in
+      let a = some-apart d t (e .round) (c h zs g) in
+      ap Some (a .1) ∙ sym (cond-true t (Some (e .round)) (find (drop (i + 1) (rows es)) D p (value-of rs)) (a .0)) ∙ sym (next i h) ∙ l zs g
 
   pub sought-all : (i : ℕ) → length es ≤ i → Sought allows normal es D p rs i → FindTells allows normal es D p rs None
   unfolding find

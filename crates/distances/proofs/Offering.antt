@@ -61,13 +61,13 @@ pub asks-nothing : (n : ℕ) (xs : List Code) → ZoneCodes xs → Unasked n (at
 asks-nothing n xs z u D v w big rv rw same h i j hi hj = ⊎-elim {C = Meets D (w i -ℤ w j) (at xs i j)}
     (λ e. subst (Meets D (w i -ℤ w j)) (sym (ap (at xs i) (sym e) ∙ z .sound .canon .diagonal i hi)) (meets-level D (w i -ℤ w j) (let f : w i ≡ w j = ap w e in omega (arith, ints))))
     (λ d. ⊎-elim {C = Meets D (w i -ℤ w j) (at xs i j)}
-      (λ l. subst (Meets D (w i -ℤ w j)) (sym (u .row j i hj hi l (λ e. d (sym e)))) (meets-none D (w i -ℤ w j)))
-      (λ l. ⊎-elim {C = Meets D (w i -ℤ w j) (at xs i j)}
-        (λ m. subst (Meets D (w i -ℤ w j)) (sym (u .column i j hi hj m d))
-          (meets-below D (v i -ℤ v 0) (w i -ℤ w j) (at xs i 0) (low (w i) (v i) (w j) (v 0) (same i l) (rv .0) (rw .1 j hj)) (h i 0 hi (omega arith))))
-        (λ m. subst (λ x. Meets D (x -ℤ w j) (at xs i j)) (sym (same i l)) (subst (λ y. Meets D (v i -ℤ y) (at xs i j)) (sym (same j m)) (h i j hi hj)))
-        (cases-lt n j))
-      (cases-lt n i))
+    (λ l. subst (Meets D (w i -ℤ w j)) (sym (u .row j i hj hi l (λ e. d (sym e)))) (meets-none D (w i -ℤ w j)))
+    (λ l. ⊎-elim {C = Meets D (w i -ℤ w j) (at xs i j)}
+    (λ m. subst (Meets D (w i -ℤ w j)) (sym (u .column i j hi hj m d))
+    (meets-below D (v i -ℤ v 0) (w i -ℤ w j) (at xs i 0) (low (w i) (v i) (w j) (v 0) (same i l) (rv .0) (rw .1 j hj)) (h i 0 hi (omega arith))))
+    (λ m. subst (λ x. Meets D (x -ℤ w j) (at xs i j)) (sym (same i l)) (subst (λ y. Meets D (v i -ℤ y) (at xs i j)) (sym (same j m)) (h i j hi hj)))
+    (cases-lt n j))
+    (cases-lt n i))
     (cases-eq i j)
   where
     low : (a b c d : ℤ) → a ≡ b → d ≡ pos 0 → pos 0 ≤ℤ c → (a -ℤ c) ≤ℤ (b -ℤ d)
@@ -142,11 +142,11 @@ module _ (M : PlanMeaning) (formed : WellFormed M) (n : ℕ) (need : Entry → �
         let a : need′ (row new) ≡ need new = agrees new in
         record {
           ends = offered t ∙ cond-true (leb (need′ (row new)) m) _ _ (le-leb _ _ (omega (arith, a, s .fits)))
-            ∙ ap (λ rs. done rs (m - need′ (row new))) (sym q) ∙ ap (done (rows fs)) (omega (arith, a, s .room, s .fits));
+              ∙ ap (λ rs. done rs (m - need′ (row new))) (sym q) ∙ ap (done (rows fs)) (omega (arith, a, s .room, s .fits));
           ready = record {
             clocks = ready .clocks;
             fits = λ i h. subst (λ rs. EntryOf M (entry-at rs i)) (sym q)
-              (pushed-all (EntryOf M) (rows es) (row new) (λ j l. ready .fits j (omega (arith, many-rows es))) entry i (omega (arith, many-rows fs, ap length q)));
+                (pushed-all (EntryOf M) (rows es) (row new) (λ j l. ready .fits j (omega (arith, many-rows es))) entry i (omega (arith, many-rows fs, ap length q)));
           };
         }
     offer-put t (Err refused.Name) fs k s = absurd (s .none (is-entry M formed n (ready .clocks) new entry))

@@ -19,7 +19,7 @@ use Rattle.rounds.specs.Rounds.{Entry as Row, Turn, round}
 use Rattle.rounds.specs.Rounds.Turn.{done, full, range}
 use Rattle.rounds.specs.Searches.{Search, Reply, Step, step, ended}
 use Rattle.rounds.specs.Searches.Call.{widen}
-use Rattle.rounds.specs.Searches.Reply.{widened} 
+use Rattle.rounds.specs.Searches.Reply.{widened}
 use Rattle.distances.specs.Rows.{rows}
 use Rattle.distances.specs.Turns.{Ends, Ready, Agrees, Turned, RoundSays}
 use Rattle.distances.specs.Searching.{view, widen-reply, Fit, Stepped, AdvanceSays, WidenSays}
@@ -44,7 +44,7 @@ refused-step f n t refused.Buffer fs k x = absurd x
 module _ (M : PlanMeaning) (n : ℕ) (need : Entry → ℕ) (es : List Entry) (m f : ℕ) (fs : List Entry) (k : ℕ) where
   pub advance-refused : (e : Refusal) → RoundSays M n need f es m (Err e) fs k → AdvanceSays M n need es m f (Err e) Stopped fs k f
   advance-refused e s r small need′ a = let t = s need′ a r in
-    (refused-step f (length (rows es)) (round M need′ f (rows es) m) e fs k (t .ends), t .ready)
+      (refused-step f (length (rows es)) (round M need′ f (rows es) m) e fs k (t .ends), t .ready)
 
   done-step : (t : Turn) (g : ℕ) (ph : Phase) → t ≡ done (rows fs) k → g ≡ f + 1 → ph ≡ cond (eqb (length (rows fs)) (length (rows es))) Closed Open → Stepped (ended f (length (rows es)) t) (widened g) (view ph fs k g)
   done-step t g ph x q p = record {
@@ -54,11 +54,11 @@ module _ (M : PlanMeaning) (n : ℕ) (need : Entry → ℕ) (es : List Entry) (m
 
   pub advance-closed : (u : Unit {0}) (g : ℕ) → RoundSays M n need f es m (Ok u) fs k → (f < 18446744073709551615 → g ≡ f + 1) → length fs ≡ length es → AdvanceSays M n need es m f (Ok g) Closed fs k g
   advance-closed u g s q c r small need′ a = let t = s need′ a r in
-    (done-step (round M need′ f (rows es) m) g Closed (t .ends) (q small) (sym (cond-true (eqb (length (rows fs)) (length (rows es))) Closed Open (eq-eqb _ _ (many-rows fs ∙ c ∙ sym (many-rows es))))), t .ready)
+      (done-step (round M need′ f (rows es) m) g Closed (t .ends) (q small) (sym (cond-true (eqb (length (rows fs)) (length (rows es))) Closed Open (eq-eqb _ _ (many-rows fs ∙ c ∙ sym (many-rows es))))), t .ready)
 
   pub advance-open : (u : Unit {0}) (g : ℕ) → RoundSays M n need f es m (Ok u) fs k → (f < 18446744073709551615 → g ≡ f + 1) → (length fs ≡ length es → ⊥) → AdvanceSays M n need es m f (Ok g) Open fs k g
   advance-open u g s q c r small need′ a = let t = s need′ a r in
-    (done-step (round M need′ f (rows es) m) g Open (t .ends) (q small) (sym (cond-false (eqb (length (rows fs)) (length (rows es))) Closed Open (ne-eqb _ _ (λ e. c (sym (many-rows fs) ∙ e ∙ many-rows es))))), t .ready)
+      (done-step (round M need′ f (rows es) m) g Open (t .ends) (q small) (sym (cond-false (eqb (length (rows fs)) (length (rows es))) Closed Open (ne-eqb _ _ (λ e. c (sym (many-rows fs) ∙ e ∙ many-rows es))))), t .ready)
 
 step-open : (M : PlanMeaning) (need′ : Row → ℕ) (es : List Entry) (m f : ℕ) → step M need′ (view Open es m f) widen ≡ ended f (length (rows es)) (round M need′ f (rows es) m)
 unfolding step
@@ -70,9 +70,11 @@ open-fit e = let z : _≡_ {A = ℕ} 0 1 = cc in omega arith
 module _ (M : PlanMeaning) (n : ℕ) (need : Entry → ℕ) (es : List Entry) (m f : ℕ) where
   pub widen-open : (r : Result ℕ Refusal) (ph ph′ : Phase) (fs : List Entry) (k g : ℕ) → ph ≡ Open → AdvanceSays M n need es m f r ph′ fs k g → WidenSays M n need ph es m f r ph′ fs k g
   widen-open r ph ph′ fs k g q s fit small need′ a =
-    let t = s (fit (λ e. open-fit (sym q ∙ e))) small need′ a in
-    (subst (λ p. Stepped (step M need′ (view p es m f) widen) (widen-reply r) (view ph′ fs k g)) (sym q)
-      (subst (λ x. Stepped x (widen-reply r) (view ph′ fs k g)) (sym (step-open M need′ es m f)) (t .0)), λ _. t .1)
+      let t = s (fit (λ e. open-fit (sym q ∙ e))) small need′ a in (
+        subst (λ p. Stepped (step M need′ (view p es m f) widen) (widen-reply r) (view ph′ fs k g)) (sym q)
+            (subst (λ x. Stepped x (widen-reply r) (view ph′ fs k g)) (sym (step-open M need′ es m f)) (t .0)),
+        λ _. t .1,
+      )
 
   idle : (p : Phase) → (p ≡ Open → ⊥) → (need′ : Row → ℕ) → Stepped (step M need′ (view p es m f) widen) (widen-reply (Err refused.Phase)) (view p es m f)
   unfolding step

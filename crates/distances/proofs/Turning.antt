@@ -60,7 +60,7 @@ module _ (M : PlanMeaning) (formed : WellFormed M) (n : ℕ) (need : Entry → �
       subst (λ (x : Goal). Turned M n (tries need′ 0 (goal-start M x ∷ []) (rows es) m) r fs k) e
       (subst (λ t. Turned M n t r fs k) (sym (tries-one need′ 0 (goal-start M g) (rows es) m))
       (o need′ a ready (goal-zone M g) (t of) (λ K. subst (λ (x : Goal). StartFits M 0 (x .position) (goal-zone M x)) (sym e)
-        (start-fits M (Arriving M (goal-at M j)) 0 (goal-at M j .position) (w .0) (goal-zone M (goal-at M j)) (goal-exact M (laws M K formed) j h)))))
+      (start-fits M (Arriving M (goal-at M j)) 0 (goal-at M j .position) (w .0) (goal-zone M (goal-at M j)) (goal-exact M (laws M K formed) j h)))))
 
   -- ---- outcomes
   module _ (f : ℕ) (e : Entry) (j : ℕ) (o : Outcome) (i : Item (M .outcomes) (j + 1) (Ok o)) where
@@ -93,16 +93,16 @@ module _ (M : PlanMeaning) (formed : WellFormed M) (n : ℕ) (need : Entry → �
         let z = e .zone .codes in
         let source : Names (length (M .positions)) (move-of M o .source) = formed .moves (o .cause - 1) (let c = outcome-of h .cause in omega (arith, c .0, c .1)) .0 in
         let fits : Lawful (M .allows) (M .normal) → StartFits M f (mv .source) (step-zone M z o)
-              = λ K. subst (λ (y : Move). StartFits M f (y .source) (step-zone M z o)) (sym q)
-                (subst (λ (y : Outcome). StartFits M f (move-of M y .source) (step-zone M z y)) (sym outcome-is)
-                (start-fits M (Crossing M z (outcome-at M j)) f (move-of M (outcome-at M j) .source) (subst (λ (y : Outcome). Names (length (M .positions)) (move-of M y .source)) outcome-is source)
-                  (step-zone M z (outcome-at M j)) (step-exact M (laws M K formed) z (of .zone) j h))) in
+        = λ K. subst (λ (y : Move). StartFits M f (y .source) (step-zone M z o)) (sym q)
+        (subst (λ (y : Outcome). StartFits M f (move-of M y .source) (step-zone M z y)) (sym outcome-is)
+        (start-fits M (Crossing M z (outcome-at M j)) f (move-of M (outcome-at M j) .source) (subst (λ (y : Outcome). Names (length (M .positions)) (move-of M y .source)) outcome-is source)
+        (step-zone M z (outcome-at M j)) (step-exact M (laws M K formed) z (of .zone) j h))) in
         let one : Turned M n (tried need′ f (move-of M o .source) (step-zone M z o) (rows es) m) r fs k
-              = subst (λ (y : Move). Turned M n (tried need′ f (y .source) (step-zone M z o) (rows es) m) r fs k) q
-                (s need′ a ready (step-zone M z o) (t step (record { codes = of .zone .codes; of-domain = of .zone .of-domain })) fits) in
+        = subst (λ (y : Move). Turned M n (tried need′ f (y .source) (step-zone M z o) (rows es) m) r fs k) q
+        (s need′ a ready (step-zone M z o) (t step (record { codes = of .zone .codes; of-domain = of .zone .of-domain })) fits) in
         subst (λ (y : Outcome). Turned M n (tries need′ f (across M (row e) y) (rows es) m) r fs k) outcome-is
         (subst (λ cs. Turned M n (tries need′ f cs (rows es) m) r fs k)
-          (sym (cond-true (leb 1 (o .chance) && eqb (o .target) (e .position)) (step-start M (row e) o ∷ []) [] (and-from (leb 1 (o .chance)) (eqb (o .target) (e .position)) (le-leb 1 (o .chance) likely) (eq-eqb (o .target) (e .position) to))))
+        (sym (cond-true (leb 1 (o .chance) && eqb (o .target) (e .position)) (step-start M (row e) o ∷ []) [] (and-from (leb 1 (o .chance)) (eqb (o .target) (e .position)) (le-leb 1 (o .chance) likely) (eq-eqb (o .target) (e .position) to))))
         (subst (λ y. Turned M n y r fs k) (sym (tries-one need′ f (step-start M (row e) o) (rows es) m)) one))
 
 -- ---- loops
@@ -143,7 +143,7 @@ module _ (M : PlanMeaning) (need : ℕ → Entry → ℕ) (n₀ : ℕ) (es₀ : 
     loop-on n′ q u fs k s = record {
       clocks = q ∙ l .clocks;
       goes = λ need′ a r0. let t = part (Ok u) fs k s need′ a r0 in
-        record { left = ap (λ y. onward y (tries need′ f rest′)) (sym (t .ends)) ∙ sym (split need′) ∙ l .goes need′ a r0 .left; ready = t .ready };
+          record { left = ap (λ y. onward y (tries need′ f rest′)) (sym (t .ends)) ∙ sym (split need′) ∙ l .goes need′ a r0 .left; ready = t .ready };
     }
 
     pub loop-off : (e : Refusal) (fs : List Entry) (k : ℕ) → TriesSays M n (need n) f cs es m (Err e) fs k → (need′ : Row → ℕ) → Agrees need′ (need n₀) → Ready M n₀ es₀ → Turned M n₀ (whole need′) (Err e) fs k
@@ -184,7 +184,6 @@ pub outcomes-all : (M : PlanMeaning) (e : Row) (i : ℕ) → length (M .outcomes
 outcomes-all M e i h = at-drop-all (joined (across M e)) (M .outcomes) i h
 
 module _ (M : PlanMeaning) (need : ℕ → Entry → ℕ) (n₀ : ℕ) (es₀ : List Entry) (m₀ i : ℕ) where
-
   pub first-on : i < length (M .goals) → (n : ℕ) (es : List Entry) (m : ℕ) → FirstLoop M need n₀ es₀ m₀ i n es m → (n′ : ℕ) → n′ ≡ n → (u : Unit {0}) (fs : List Entry) (k : ℕ) → GoalSays M n (need n) i es m (Ok u) fs k → FirstLoop M need n₀ es₀ m₀ (i + 1) n′ fs k
   first-on h n es m l n′ q u fs k s = loop-on M need n₀ es₀ 0 (λ need′. round M need′ 0 (rows es₀) m₀) (goals-left M i) (goal-start M (goal-at M i) ∷ []) (goals-left M (i + 1)) (goals-more M i h) n es m l n′ q u fs k (s h)
 
@@ -230,16 +229,16 @@ module _ (M : PlanMeaning) (n : ℕ) (need : Entry → ℕ) (es : List Entry) (m
   unfolding after
   other-round d u h need′ a r = record {
     ends = ap (λ x. tries need′ f (after M g x) (rows es) m) (row-read es j e h i)
-      ∙ ap (λ cs. tries need′ f cs (rows es) m) (cond-false (eqb (e .round) g) (joined (across M (row e)) (M .outcomes)) [] (ne-eqb (e .round) g d)) ∙ tries-none need′ f (rows es) m;
+        ∙ ap (λ cs. tries need′ f cs (rows es) m) (cond-false (eqb (e .round) g) (joined (across M (row e)) (M .outcomes)) [] (ne-eqb (e .round) g d)) ∙ tries-none need′ f (rows es) m;
     ready = r;
   }
 
   pub this-round : e .round ≡ g → (r : Result (Unit {0}) Refusal) (fs : List Entry) (k : ℕ) → AcrossSays M n need f e es m r fs k → AfterSays M n need f g j es m r fs k
   unfolding after
   this-round q r fs k s h need′ a ready =
-    subst (λ x. Turned M n (tries need′ f (after M g x) (rows es) m) r fs k) (sym (row-read es j e h i))
-    (subst (λ cs. Turned M n (tries need′ f cs (rows es) m) r fs k) (sym (cond-true (eqb (e .round) g) (joined (across M (row e)) (M .outcomes)) [] (eq-eqb (e .round) g q)))
-    (s (subst (EntryOf M) (row-read es j e h i) (ready .fits j h)) need′ a ready))
+      subst (λ x. Turned M n (tries need′ f (after M g x) (rows es) m) r fs k) (sym (row-read es j e h i))
+      (subst (λ cs. Turned M n (tries need′ f cs (rows es) m) r fs k) (sym (cond-true (eqb (e .round) g) (joined (across M (row e)) (M .outcomes)) [] (eq-eqb (e .round) g q)))
+      (s (subst (EntryOf M) (row-read es j e h i) (ready .fits j h)) need′ a ready))
 
 -- ---- the entries of the last round
 abbrev pub entries-left : PlanMeaning → ℕ → List Entry → ℕ → List Start
@@ -266,7 +265,7 @@ module _ (M : PlanMeaning) (need : ℕ → Entry → ℕ) (n₀ : ℕ) (es₀ : 
 
     part-of : (r : Result (Unit {0}) Refusal) (fs : List Entry) (k : ℕ) → AfterSays M n (need n) f g i es m r fs k → Turned M n₀ (tries need′ f (after M g (entry-at (rows es₀) i)) (rows es) m) r fs k
     part-of r fs k s = subst (λ x. Turned M n₀ (tries need′ f (after M g x) (rows es) m) r fs k) (old .1)
-      (subst (λ x. AfterSays M x (need x) f g i es m r fs k) (l .clocks) s (old .0) need′ a (l .goes need′ a r0 .0 .ready))
+        (subst (λ x. AfterSays M x (need x) f g i es m r fs k) (l .clocks) s (old .0) need′ a (l .goes need′ a r0 .0 .ready))
 
     cut : tries need′ f (entries-left M g es₀ i) (rows es) m ≡ onward (tries need′ f (after M g (entry-at (rows es₀) i)) (rows es) m) (tries need′ f (entries-left M g es₀ (i + 1)))
     cut = ap (λ ds. tries need′ f ds (rows es) m) (entries-more h) ∙ tries-append need′ f (after M g (entry-at (rows es₀) i)) (entries-left M g es₀ (i + 1)) (rows es) m
@@ -275,26 +274,27 @@ module _ (M : PlanMeaning) (need : ℕ → Entry → ℕ) (n₀ : ℕ) (es₀ : 
   next-on h n′ q u fs k s = record {
     clocks = q ∙ l .clocks;
     goes = λ need′ a r0.
-      let t = part-of h need′ a r0 (Ok u) fs k s in
-      let w = l .goes need′ a r0 in
-      (record { left = ap (λ y. onward y (tries need′ f (entries-left M g es₀ (i + 1)))) (sym (t .ends)) ∙ sym (cut h need′ a r0) ∙ w .0 .left; ready = t .ready },
-       λ j b. let x = tries-begins need′ f (after M g (entry-at (rows es₀) i)) (rows es) m (rows fs) k (sym (t .ends)) j (w .1 j b .0) in (x .0, x .1 ∙ w .1 j b .1));
+        let t = part-of h need′ a r0 (Ok u) fs k s in
+        let w = l .goes need′ a r0 in (
+          record { left = ap (λ y. onward y (tries need′ f (entries-left M g es₀ (i + 1)))) (sym (t .ends)) ∙ sym (cut h need′ a r0) ∙ w .0 .left; ready = t .ready },
+          λ j b. let x = tries-begins need′ f (after M g (entry-at (rows es₀) i)) (rows es) m (rows fs) k (sym (t .ends)) j (w .1 j b .0) in (x .0, x .1 ∙ w .1 j b .1),
+        );
   }
 
   pub next-off : i < length es₀ → (e : Refusal) (fs : List Entry) (k : ℕ) → AfterSays M n (need n) f g i es m (Err e) fs k → f ≡ g + 1 → RoundSays M n₀ (need n₀) f es₀ m₀ (Err e) fs k
   next-off h e fs k s q need′ a r0 =
-    let t = part-of h need′ a r0 (Err e) fs k s in
-    record {
-      ends = ends-off (tries need′ f (after M g (entry-at (rows es₀) i)) (rows es) m) (round M need′ f (rows es₀) m₀) (tries need′ f (entries-left M g es₀ (i + 1))) e (rows fs) k (t .ends)
-        (sym (cut h need′ a r0) ∙ l .goes need′ a r0 .0 .left ∙ round-next M need′ f g (rows es₀) m₀ q);
-      ready = t .ready;
-    }
+      let t = part-of h need′ a r0 (Err e) fs k s in
+      record {
+        ends = ends-off (tries need′ f (after M g (entry-at (rows es₀) i)) (rows es) m) (round M need′ f (rows es₀) m₀) (tries need′ f (entries-left M g es₀ (i + 1))) e (rows fs) k (t .ends)
+            (sym (cut h need′ a r0) ∙ l .goes need′ a r0 .0 .left ∙ round-next M need′ f g (rows es₀) m₀ q);
+        ready = t .ready;
+      }
 
   pub next-end : length es₀ ≤ i → (u : Unit {0}) → f ≡ g + 1 → RoundSays M n₀ (need n₀) f es₀ m₀ (Ok u) es m
   next-end h u q need′ a r0 =
-    let w = l .goes need′ a r0 in
-    record {
-      ends = sym (round-next M need′ f g (rows es₀) m₀ q) ∙ sym (w .0 .left)
-        ∙ ap (λ cs. tries need′ f cs (rows es) m) (at-drop-all (joined (after M g)) (rows es₀) i (omega (arith, many-rows es₀))) ∙ tries-none need′ f (rows es) m;
-      ready = w .0 .ready;
-    }
+      let w = l .goes need′ a r0 in
+      record {
+        ends = sym (round-next M need′ f g (rows es₀) m₀ q) ∙ sym (w .0 .left)
+            ∙ ap (λ cs. tries need′ f cs (rows es) m) (at-drop-all (joined (after M g)) (rows es₀) i (omega (arith, many-rows es₀))) ∙ tries-none need′ f (rows es) m;
+        ready = w .0 .ready;
+      }

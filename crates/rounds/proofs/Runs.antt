@@ -26,7 +26,7 @@ use Rattle.rounds.specs.Theorems.{Rounded, Round-kept, Answers-say, Runs-lawfu
 use Rattle.std.proofs.shelf.Tests.{both-ways, and-from, le-leb, eq-eqb}
 use Rattle.rounds.proofs.Places.{every-at, every-from}
 
-askable-yes : (M : PlanMeaning) (D p : ℕ) (rs : List ℕ) → askable M D p rs ≡ true → Askable M D p rs
+pub askable-yes : (M : PlanMeaning) (D p : ℕ) (rs : List ℕ) → askable M D p rs ≡ true → Askable M D p rs
 unfolding askable
 askable-yes M D p rs e =
     let a = and-parts (leb 1 p && leb p (length (M .positions))) _ e in
@@ -45,7 +45,7 @@ askable-yes M D p rs e =
       small = λ k h. leb-true (getD rs k 0) 1000000000 (every-at (length rs) (λ i. leb (getD rs i 0) 1000000000) (g .1) k h);
     }
 
-yes-askable : (M : PlanMeaning) (D p : ℕ) (rs : List ℕ) → Askable M D p rs → askable M D p rs ≡ true
+pub yes-askable : (M : PlanMeaning) (D p : ℕ) (rs : List ℕ) → Askable M D p rs → askable M D p rs ≡ true
 unfolding askable
 yes-askable M D p rs a =
     and-from _ _ (and-from _ _ (le-leb 1 p (a .first)) (le-leb p (length (M .positions)) (a .last)))

@@ -41,7 +41,7 @@ returns-in-Ok-move-at g c =
     let n = g .S·Store .dimension s in
     record {
       says = crossed (g .P·Plan .meaning p) (g .P·Plan .sound p) n (g .S·Store .need n) (g .S·Store .entries s) (g .S·Store .room s) (c .args .round) (c .args .held .now) (c .args .k) (c .in-Ok .outcome) (c .in-Ok .ensures tt)
-        (c .if-outcome-lt1 .left) (c .if-outcome-held .left) (c .in-Ok-move-at .cause) (c .in-Ok-move-at .ensures tt) (c .step-zone-left .result) (c .offer .result)
-        (g .S·Store .entries (c .offer .last .store)) (g .S·Store .room (c .offer .last .store)) (c .step-zone-left .ensures) (c .offer .ensures .says);
+          (c .if-outcome-lt1 .left) (c .if-outcome-held .left) (c .in-Ok-move-at .cause) (c .in-Ok-move-at .ensures tt) (c .step-zone-left .result) (c .offer .result)
+          (g .S·Store .entries (c .offer .last .store)) (g .S·Store .room (c .offer .last .store)) (c .step-zone-left .ensures) (c .offer .ensures .says);
       clocks = c .offer .ensures .clocks;
     }

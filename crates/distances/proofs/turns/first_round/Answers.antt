@@ -14,7 +14,7 @@ loop-k-again g c =
     let t = c .loop-k .store in
     let v = c .from-goal .last .store in
     first-on (g .P·Plan .meaning (c .args .plan .now)) (g .S·Store .need) (g .S·Store .dimension s) (g .S·Store .entries s) (g .S·Store .room s) (c .loop-k .k) (omega (arith, c .goals-k-end .ensures)) (g .S·Store .dimension t) (g .S·Store .entries t) (g .S·Store .room t) (c .loop-k .inv)
-      (g .S·Store .dimension v) (c .from-goal .ensures .clocks) tt (g .S·Store .entries v) (g .S·Store .room v) (c .in-Ok .ensures tt .says)
+    (g .S·Store .dimension v) (c .from-goal .ensures .clocks) tt (g .S·Store .entries v) (g .S·Store .room v) (c .in-Ok .ensures tt .says)
 
 pub returns-in-Err : need.returns-in-Err
 returns-in-Err g c =
@@ -23,7 +23,7 @@ returns-in-Err g c =
     let v = c .from-goal .last .store in
     record {
       says = first-off (g .P·Plan .meaning (c .args .plan .now)) (g .S·Store .need) (g .S·Store .dimension s) (g .S·Store .entries s) (g .S·Store .room s) (c .loop-k .k) (omega (arith, c .goals-k-end .ensures)) (g .S·Store .dimension t) (g .S·Store .entries t) (g .S·Store .room t) (c .loop-k .inv)
-        (c .in-Err .why) (g .S·Store .entries v) (g .S·Store .room v) (c .in-Err .ensures tt .says);
+          (c .in-Err .why) (g .S·Store .entries v) (g .S·Store .room v) (c .in-Err .ensures tt .says);
       clocks = c .from-goal .ensures .clocks ∙ c .loop-k .inv .clocks;
     }
 

@@ -14,7 +14,7 @@ loop-k-again g c =
     let t = c .loop-k .store in
     let v = c .cross .last .store in
     across-on (g .P·Plan .meaning (c .args .plan .now)) (g .S·Store .need) (g .S·Store .dimension s) (g .S·Store .entries s) (g .S·Store .room s) (c .args .round) (c .args .held .now) (c .loop-k .k) (g .S·Store .dimension t) (g .S·Store .entries t) (g .S·Store .room t) (c .loop-k .inv)
-      (omega (arith, c .outcomes-k-end .ensures)) (g .S·Store .dimension v) (c .cross .ensures .clocks) tt (g .S·Store .entries v) (g .S·Store .room v) (c .in-Ok .ensures tt .says)
+    (omega (arith, c .outcomes-k-end .ensures)) (g .S·Store .dimension v) (c .cross .ensures .clocks) tt (g .S·Store .entries v) (g .S·Store .room v) (c .in-Ok .ensures tt .says)
 
 pub returns-in-Err : need.returns-in-Err
 returns-in-Err g c =
@@ -23,7 +23,7 @@ returns-in-Err g c =
     let v = c .cross .last .store in
     record {
       says = across-off (g .P·Plan .meaning (c .args .plan .now)) (g .S·Store .need) (g .S·Store .dimension s) (g .S·Store .entries s) (g .S·Store .room s) (c .args .round) (c .args .held .now) (c .loop-k .k) (g .S·Store .dimension t) (g .S·Store .entries t) (g .S·Store .room t) (c .loop-k .inv)
-        (omega (arith, c .outcomes-k-end .ensures)) (c .in-Err .why) (g .S·Store .entries v) (g .S·Store .room v) (c .in-Err .ensures tt .says);
+          (omega (arith, c .outcomes-k-end .ensures)) (c .in-Err .why) (g .S·Store .entries v) (g .S·Store .room v) (c .in-Err .ensures tt .says);
       clocks = c .cross .ensures .clocks ∙ c .loop-k .inv .clocks;
     }
 
@@ -33,6 +33,6 @@ returns g c =
     let t = c .loop-k .store in
     record {
       says = across-end (g .P·Plan .meaning (c .args .plan .now)) (g .S·Store .need) (g .S·Store .dimension s) (g .S·Store .entries s) (g .S·Store .room s) (c .args .round) (c .args .held .now) (c .loop-k .k) (g .S·Store .dimension t) (g .S·Store .entries t) (g .S·Store .room t) (c .loop-k .inv)
-        (omega (arith, c .outcomes-k-end .ensures)) tt;
+          (omega (arith, c .outcomes-k-end .ensures)) tt;
       clocks = c .loop-k .inv .clocks;
     }

@@ -19,6 +19,6 @@ returns-else-entry-last g c =
     let v = c .from-entry .last .store in
     record {
       says = this-round (g .P·Plan .meaning (c .args .plan .now)) n (g .S·Store .need n) (g .S·Store .entries s) (g .S·Store .room s) (c .args .round) (c .args .last) (c .args .k) (c .in-Ok .entry) (c .in-Ok .ensures tt) (c .if-entry-last .left)
-        (c .from-entry .result) (g .S·Store .entries v) (g .S·Store .room v) (c .from-entry .ensures .says);
+          (c .from-entry .result) (g .S·Store .entries v) (g .S·Store .room v) (c .from-entry .ensures .says);
       clocks = c .from-entry .ensures .clocks;
     }

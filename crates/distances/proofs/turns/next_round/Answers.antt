@@ -14,7 +14,7 @@ loop-k-again g c =
     let t = c .loop-k .store in
     let v = c .from-last .last .store in
     next-on (g .P·Plan .meaning (c .args .plan .now)) (g .S·Store .need) (g .S·Store .dimension s) (g .S·Store .entries s) (g .S·Store .room s) (c .args .round) (c .args .last) (c .loop-k .k) (g .S·Store .dimension t) (g .S·Store .entries t) (g .S·Store .room t) (c .loop-k .inv)
-      (omega (arith, c .count-k-end .ensures)) (g .S·Store .dimension v) (c .from-last .ensures .clocks) tt (g .S·Store .entries v) (g .S·Store .room v) (c .in-Ok .ensures tt .says)
+    (omega (arith, c .count-k-end .ensures)) (g .S·Store .dimension v) (c .from-last .ensures .clocks) tt (g .S·Store .entries v) (g .S·Store .room v) (c .in-Ok .ensures tt .says)
 
 pub returns-in-Err : need.returns-in-Err
 returns-in-Err g c =
@@ -23,7 +23,7 @@ returns-in-Err g c =
     let v = c .from-last .last .store in
     record {
       says = next-off (g .P·Plan .meaning (c .args .plan .now)) (g .S·Store .need) (g .S·Store .dimension s) (g .S·Store .entries s) (g .S·Store .room s) (c .args .round) (c .args .last) (c .loop-k .k) (g .S·Store .dimension t) (g .S·Store .entries t) (g .S·Store .room t) (c .loop-k .inv)
-        (omega (arith, c .count-k-end .ensures)) (c .in-Err .why) (g .S·Store .entries v) (g .S·Store .room v) (c .in-Err .ensures tt .says) (sym (c .pre));
+          (omega (arith, c .count-k-end .ensures)) (c .in-Err .why) (g .S·Store .entries v) (g .S·Store .room v) (c .in-Err .ensures tt .says) (sym (c .pre));
       clocks = c .from-last .ensures .clocks ∙ c .loop-k .inv .clocks;
     }
 
@@ -33,6 +33,6 @@ returns g c =
     let t = c .loop-k .store in
     record {
       says = next-end (g .P·Plan .meaning (c .args .plan .now)) (g .S·Store .need) (g .S·Store .dimension s) (g .S·Store .entries s) (g .S·Store .room s) (c .args .round) (c .args .last) (c .loop-k .k) (g .S·Store .dimension t) (g .S·Store .entries t) (g .S·Store .room t) (c .loop-k .inv)
-        (omega (arith, c .count-k-end .ensures)) tt (sym (c .pre));
+          (omega (arith, c .count-k-end .ensures)) tt (sym (c .pre));
       clocks = c .loop-k .inv .clocks;
     }

@@ -31,7 +31,7 @@ returns-then-is-covered g c =
     let n = g .S·Store .dimension s in
     record {
       says = λ need′ a r o t f. offer-dropped (g .P·Plan .meaning p) (g .P·Plan .sound p) n (g .S·Store .need n) (c .args .round) (c .args .position) (g .S·Store .entries s) (g .S·Store .room s) need′ a r
-        _ (c .time-time .ensures .normal) (c .in-Some .zone) o (subst (λ x. Tells o (Ok x)) (c .in-Some .is) (subst (Tells o) (c .in-Ok .is) t)) (f (lawful-of (g .P·Plan .meaning p) _ _ (c .time-time .ensures .allows) (c .time-time .ensures .normal) (g .Time·TimeDomain .lawful (c .time-time .result)))) (c .is-covered .result) (c .is-covered .ensures) tt (c .if-is-covered .taken);
+          _ (c .time-time .ensures .normal) (c .in-Some .zone) o (subst (λ x. Tells o (Ok x)) (c .in-Some .is) (subst (Tells o) (c .in-Ok .is) t)) (f (lawful-of (g .P·Plan .meaning p) _ _ (c .time-time .ensures .allows) (c .time-time .ensures .normal) (g .Time·TimeDomain .lawful (c .time-time .result)))) (c .is-covered .result) (c .is-covered .ensures) tt (c .if-is-covered .taken);
       clocks = refl;
     }
 
@@ -42,7 +42,7 @@ returns-else-is-covered g c =
     let n = g .S·Store .dimension s in
     record {
       says = λ need′ a r o t f. offer-put (g .P·Plan .meaning p) (g .P·Plan .sound p) n (g .S·Store .need n) (c .args .round) (c .args .position) (g .S·Store .entries s) (g .S·Store .room s) need′ a r
-        _ (c .time-time .ensures .normal) (c .in-Some .zone) o (subst (λ x. Tells o (Ok x)) (c .in-Some .is) (subst (Tells o) (c .in-Ok .is) t)) (f (lawful-of (g .P·Plan .meaning p) _ _ (c .time-time .ensures .allows) (c .time-time .ensures .normal) (g .Time·TimeDomain .lawful (c .time-time .result)))) (c .is-covered .result) (c .is-covered .ensures) (c .if-is-covered .left)
-        (c .put .result) (g .S·Store .entries (c .put .last .self)) (g .S·Store .room (c .put .last .self)) (c .put .ensures .says);
+          _ (c .time-time .ensures .normal) (c .in-Some .zone) o (subst (λ x. Tells o (Ok x)) (c .in-Some .is) (subst (Tells o) (c .in-Ok .is) t)) (f (lawful-of (g .P·Plan .meaning p) _ _ (c .time-time .ensures .allows) (c .time-time .ensures .normal) (g .Time·TimeDomain .lawful (c .time-time .result)))) (c .is-covered .result) (c .is-covered .ensures) (c .if-is-covered .left)
+          (c .put .result) (g .S·Store .entries (c .put .last .self)) (g .S·Store .room (c .put .last .self)) (c .put .ensures .says);
       clocks = c .put .ensures .clocks;
     }

@@ -23,7 +23,7 @@ returns-then-count-before g c =
     let v = c .do-round .last .store in
     record {
       says = advance-closed (g .P·Plan .meaning (s .plan)) n (g .S·Store .need n) (g .S·Store .entries (s .store)) (g .S·Store .room (s .store)) (s .rounds) (g .S·Store .entries v) (g .S·Store .room v) tt (c .saturating-add-self .result) (c .in-Ok .ensures tt .says)
-        (λ small. omega (arith, c .saturating-add-self .ensures)) (sym (c .count .ensures) ∙ c .if-count-before .taken ∙ c .count-before .ensures);
+          (λ small. omega (arith, c .saturating-add-self .ensures)) (sym (c .count .ensures) ∙ c .if-count-before .taken ∙ c .count-before .ensures);
       plan = refl;
       clocks = c .do-round .ensures .clocks;
     }
@@ -35,8 +35,8 @@ returns-else-count-before g c =
     let v = c .do-round .last .store in
     record {
       says = subst (λ p. AdvanceSays (g .P·Plan .meaning (s .plan)) n (g .S·Store .need n) (g .S·Store .entries (s .store)) (g .S·Store .room (s .store)) (s .rounds) (Ok (c .saturating-add-self .result)) p (g .S·Store .entries v) (g .S·Store .room v) (c .saturating-add-self .result)) (sym (c .pre))
-        (advance-open (g .P·Plan .meaning (s .plan)) n (g .S·Store .need n) (g .S·Store .entries (s .store)) (g .S·Store .room (s .store)) (s .rounds) (g .S·Store .entries v) (g .S·Store .room v) tt (c .saturating-add-self .result) (c .in-Ok .ensures tt .says)
-        (λ small. omega (arith, c .saturating-add-self .ensures)) (λ e. c .if-count-before .left (c .count .ensures ∙ e ∙ sym (c .count-before .ensures))));
+          (advance-open (g .P·Plan .meaning (s .plan)) n (g .S·Store .need n) (g .S·Store .entries (s .store)) (g .S·Store .room (s .store)) (s .rounds) (g .S·Store .entries v) (g .S·Store .room v) tt (c .saturating-add-self .result) (c .in-Ok .ensures tt .says)
+          (λ small. omega (arith, c .saturating-add-self .ensures)) (λ e. c .if-count-before .left (c .count .ensures ∙ e ∙ sym (c .count-before .ensures))));
       plan = refl;
       clocks = c .do-round .ensures .clocks;
     }
