@@ -39,7 +39,7 @@ written-on buf at ds es m e h =
     let front : take m (written buf at ds) ≡ take at buf ++ ds = ap (take m) flat ∙ take-at (take at buf ++ ds) rest m l in
     let back : drop m (written buf at ds) ≡ rest = ap (drop m) flat ∙ drop-at (take at buf ++ ds) rest m l in
     let past : drop (m + length es) (written buf at ds) ≡ drop (at + length (ds ++ es)) buf =
-      sym (drop-drop (length es) m (written buf at ds)) ∙ ap (drop (length es)) back ∙ drop-drop (length es) (at + length ds) buf ∙ ap (λ k. drop k buf) (omega (arith, length-append ds es)) in
+    sym (drop-drop (length es) m (written buf at ds)) ∙ ap (drop (length es)) back ∙ drop-drop (length es) (at + length ds) buf ∙ ap (λ k. drop k buf) (omega (arith, length-append ds es)) in
     (λ i. front i ++ (es ++ past i)) ∙ append-assoc (take at buf) ds (es ++ drop (at + length (ds ++ es)) buf) ∙ ap (λ l. take at buf ++ l) (sym (append-assoc ds es (drop (at + length (ds ++ es)) buf)))
 
 pub written-none : (buf : List ℕ) (at : ℕ) → buf ≡ written buf at []

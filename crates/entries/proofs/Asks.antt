@@ -65,9 +65,10 @@ moved-readings : (v : ℕ → ℤ) (c : ℕ) (x : ℤ) → 0 < c → pos 0 ≤�
 moved-readings v c x h px rd = (
   moved-other v c x 0 (λ e. omega arith) ∙ rd .0,
   λ k hk. ⊎-elim {C = pos 0 ≤ℤ moved v c x k}
-    (λ e. subst (λ (t : ℤ). pos 0 ≤ℤ t) (sym (ap (moved v c x) e ∙ moved-here v c x)) px)
-    (λ d. subst (λ (t : ℤ). pos 0 ≤ℤ t) (sym (moved-other v c x k d)) (rd .1 k hk))
-    (cases-eq k c))
+      (λ e. subst (λ (t : ℤ). pos 0 ≤ℤ t) (sym (ap (moved v c x) e ∙ moved-here v c x)) px)
+      (λ d. subst (λ (t : ℤ). pos 0 ≤ℤ t) (sym (moved-other v c x k d)) (rd .1 k hk))
+      (cases-eq k c),
+)
 
 -- a product is not above that with the size in its place
 size : (c : ℤ) (D : ℕ) → (c *ℤ pos D) ≤ℤ pos (natAbs c * D)
@@ -88,18 +89,18 @@ module _ (n : ℕ) (xs : List Code) (s : Sound xs) where
   free-asks f D v w big rv rw same h i j hi hj =
       subst (Meets D (w i -ℤ w j)) (sym (f i j hi hj))
       (⊎-elim {C = Meets D (w i -ℤ w j) (whole n (at xs) i j)}
-        (λ e. subst (Meets D (w i -ℤ w j)) (whole-same n (at xs) i j e) (low-meets D _ (let z = ap w e in omega (arith, ints, z))))
-        (λ d. ⊎-elim {C = Meets D (w i -ℤ w j) (whole n (at xs) i j)}
-          (λ l. subst (Meets D (w i -ℤ w j)) (whole-none n (at xs) i j d l) (any D (w i -ℤ w j)))
-          (λ l. ⊎-elim {C = Meets D (w i -ℤ w j) (whole n (at xs) i j)}
-            (λ k. ⊎-elim {C = Meets D (w i -ℤ w j) (whole n (at xs) i j)}
-              (λ z. subst (Meets D (w i -ℤ w j)) (whole-zero n (at xs) i j d l k z) (low-meets D _ (let a = ap w z in omega (arith, ints, a, rw .0, rw .1 j hj))))
-              (λ z. subst (Meets D (w i -ℤ w j)) (whole-first n (at xs) i j d l k z) (meets-down D (v i -ℤ v 0) (w i -ℤ w j) (at xs i 0) (omega (arith, ints, same i l, rv .0, rw .1 j hj)) (h i 0 hi (omega arith))))
-              (cases-eq i 0))
-            (λ k. subst (Meets D (w i -ℤ w j)) (whole-kept n (at xs) i j d l k) (meets-down D (v i -ℤ v j) (w i -ℤ w j) (at xs i j) (omega (arith, ints, same i l, same j k)) (h i j hi hj)))
-            (cases-lt n j))
-          (cases-lt n i))
-        (cases-eq i j))
+      (λ e. subst (Meets D (w i -ℤ w j)) (whole-same n (at xs) i j e) (low-meets D _ (let z = ap w e in omega (arith, ints, z))))
+      (λ d. ⊎-elim {C = Meets D (w i -ℤ w j) (whole n (at xs) i j)}
+      (λ l. subst (Meets D (w i -ℤ w j)) (whole-none n (at xs) i j d l) (any D (w i -ℤ w j)))
+      (λ l. ⊎-elim {C = Meets D (w i -ℤ w j) (whole n (at xs) i j)}
+      (λ k. ⊎-elim {C = Meets D (w i -ℤ w j) (whole n (at xs) i j)}
+      (λ z. subst (Meets D (w i -ℤ w j)) (whole-zero n (at xs) i j d l k z) (low-meets D _ (let a = ap w z in omega (arith, ints, a, rw .0, rw .1 j hj))))
+      (λ z. subst (Meets D (w i -ℤ w j)) (whole-first n (at xs) i j d l k z) (meets-down D (v i -ℤ v 0) (w i -ℤ w j) (at xs i 0) (omega (arith, ints, same i l, rv .0, rw .1 j hj)) (h i 0 hi (omega arith))))
+      (cases-eq i 0))
+      (λ k. subst (Meets D (w i -ℤ w j)) (whole-kept n (at xs) i j d l k) (meets-down D (v i -ℤ v j) (w i -ℤ w j) (at xs i j) (omega (arith, ints, same i l, same j k)) (h i j hi hj)))
+      (cases-lt n j))
+      (cases-lt n i))
+      (cases-eq i j))
 
   -- what the zone holds, it holds with a clock above n at any reading
   module _ (asks : AsksNothing n xs) where
@@ -144,13 +145,13 @@ module _ (n : ℕ) (xs : List Code) (s : Sound xs) where
         ⊎-elim {C = Tight (at xs i 0) (upto t c)}
         (λ y. y)
         (λ no-tight.
-          let r = within-out laws (at xs) (s .canon) (λ a b ha hb. refl) i 0 hi (omega arith) (upto t c) (λ z. let o : _≡_ {A = ℕ} 0 1 = cc in omega arith) no-tight in
-          let D = r .0 in
-          let v = r .1 .0 in
-          let f = r .1 .1 in
-          let big = laws .positive D (f .1) in
-          let m = at-zero D v big (f .0, no-less laws (at xs) (s .canon) (λ a b ha hb. refl) D v big (f .0) (f .2)) (f .2) i j hi hj l d in
-          absurd (f .3 (subst (λ x. Meets D x (upto t c)) (ap (λ x. v i -ℤ x) (sym (f .0))) (subst (Meets D (v i -ℤ pos 0)) e m))))
+        let r = within-out laws (at xs) (s .canon) (λ a b ha hb. refl) i 0 hi (omega arith) (upto t c) (λ z. let o : _≡_ {A = ℕ} 0 1 = cc in omega arith) no-tight in
+        let D = r .0 in
+        let v = r .1 .0 in
+        let f = r .1 .1 in
+        let big = laws .positive D (f .1) in
+        let m = at-zero D v big (f .0, no-less laws (at xs) (s .canon) (λ a b ha hb. refl) D v big (f .0) (f .2)) (f .2) i j hi hj l d in
+        absurd (f .3 (subst (λ x. Meets D x (upto t c)) (ap (λ x. v i -ℤ x) (sym (f .0))) (subst (Meets D (v i -ℤ pos 0)) e m))))
         (tight-or (at xs i 0) (upto t c))
 
     pub asks-free : Free n (at xs)
@@ -158,15 +159,15 @@ module _ (n : ℕ) (xs : List Code) (s : Sound xs) where
         ⊎-elim {C = at xs i j ≡ whole n (at xs) i j}
         (λ e. ap (at xs i) (sym e) ∙ s .canon .diagonal i hi ∙ whole-same n (at xs) i j e)
         (λ d. ⊎-elim {C = at xs i j ≡ whole n (at xs) i j}
-          (λ l. unbounded i j hi hj l d (at xs i j) refl ∙ whole-none n (at xs) i j d l)
-          (λ l. ⊎-elim {C = at xs i j ≡ whole n (at xs) i j}
-            (λ k. ⊎-elim {C = at xs i j ≡ whole n (at xs) i j}
-              (λ z. ap (λ (a : ℕ). at xs a j) z ∙ front j hj k ∙ whole-zero n (at xs) i j d l k z)
-              (λ z. tight-same _ _ (first-in i j hi hj k) (first-out i j hi hj k d (at xs i j) refl) ∙ whole-first n (at xs) i j d l k z)
-              (cases-eq i 0))
-            (λ k. whole-kept n (at xs) i j d l k)
-            (cases-lt n j))
-          (cases-lt n i))
+        (λ l. unbounded i j hi hj l d (at xs i j) refl ∙ whole-none n (at xs) i j d l)
+        (λ l. ⊎-elim {C = at xs i j ≡ whole n (at xs) i j}
+        (λ k. ⊎-elim {C = at xs i j ≡ whole n (at xs) i j}
+        (λ z. ap (λ (a : ℕ). at xs a j) z ∙ front j hj k ∙ whole-zero n (at xs) i j d l k z)
+        (λ z. tight-same _ _ (first-in i j hi hj k) (first-out i j hi hj k d (at xs i j) refl) ∙ whole-first n (at xs) i j d l k z)
+        (cases-eq i 0))
+        (λ k. whole-kept n (at xs) i j d l k)
+        (cases-lt n j))
+        (cases-lt n i))
         (cases-eq i j)
 
 -- bounds in a list, against those of a zone

@@ -54,7 +54,13 @@ fn add_bounds(line: &mut Line, zone: &Zone, count: usize) -> Result<(), Refusal>
 }
 
 // Adds the bound at a place, if it is written, after a comma if there are any before it; answers whether there are any then.
-fn add_place(line: &mut Line, zone: &Zone, count: usize, p: usize, any: bool) -> Result<bool, Refusal>
+fn add_place(
+    line: &mut Line,
+    zone: &Zone,
+    count: usize,
+    p: usize,
+    any: bool,
+) -> Result<bool, Refusal>
     requires { ⌜ p < 81 ⌝ }
     ensures { λ r. ⌜ PlacedSays (text (now (line .entry))) any p (seen count (at (now (zone .entry) .codes)) p) r (text (now (line .exit))) ⌝ }
 {

@@ -54,10 +54,10 @@ module _ (xs : List Code) (near : (p : ℕ) → p < 81 → Near 4000000 (code-of
       record {
         diagonal = λ e. same-code _ _ (near p h .1) (omega arith) (sym (at-code p) ∙ ap (at xs (p / 9)) (sym e) ∙ can .diagonal (p / 9) hi ∙ sym level-code);
         front = λ l.
-          let z : p / 9 ≡ 0 = omega arith in
-          code-le _ _ (near p h .1) (subst (λ t. Tight t (decode 33554433)) (ap (λ i. at xs i (p % 9)) (sym z) ∙ at-code p) (subst (Tight (at xs 0 (p % 9))) (sym level-code) (can .front (p % 9) hj)));
+            let z : p / 9 ≡ 0 = omega arith in
+            code-le _ _ (near p h .1) (subst (λ t. Tight t (decode 33554433)) (ap (λ i. at xs i (p % 9)) (sym z) ∙ at-code p) (subst (Tight (at xs 0 (p % 9))) (sym level-code) (can .front (p % 9) hj)));
         around = λ k hk.
-          code-le _ _ (near p h .1) (subst (Tight (decode (code-of xs p))) (sym (sum (p / 9) (p % 9) k hi hj hk)) (subst (λ t. Tight t (plus (at xs (p / 9) k) (at xs k (p % 9)))) (at-code p) (can .around (p / 9) (p % 9) k hi hj hk)));
+            code-le _ _ (near p h .1) (subst (Tight (decode (code-of xs p))) (sym (sum (p / 9) (p % 9) k hi hj hk)) (subst (λ t. Tight t (plus (at xs (p / 9) k) (at xs k (p % 9)))) (at-code p) (can .around (p / 9) (p % 9) k hi hj hk)));
       }
 
   pub direct-canon : ((p : ℕ) → p < 81 → Direct xs p) → Canon (at xs)
@@ -65,9 +65,9 @@ module _ (xs : List Code) (near : (p : ℕ) → p < 81 → Near 4000000 (code-of
     diagonal = λ i hi. ap decode (d (9 * i + i) (omega arith) .diagonal (omega arith)) ∙ level-code;
     front = λ j hj. subst (Tight (at xs 0 j)) level-code (decode-tight _ _ (d (9 * 0 + j) (omega arith) .front (omega arith)));
     around = λ i j k hi hj hk.
-      let row : (9 * i + j) / 9 ≡ i = omega arith in
-      let column : (9 * i + j) % 9 ≡ j = omega arith in
-      subst (Tight (at xs i j)) (sum i j k hi hj hk)
+        let row : (9 * i + j) / 9 ≡ i = omega arith in
+        let column : (9 * i + j) % 9 ≡ j = omega arith in
+        subst (Tight (at xs i j)) (sum i j k hi hj hk)
         (decode-tight _ _ (subst (λ (a : ℕ). code-of xs (9 * i + j) ≤ a) ((λ t. code-plus (code-of xs (9 * row t + k)) (code-of xs (9 * k + column t)))) (d (9 * i + j) (omega arith) .around k hk)));
   }
 

@@ -16,7 +16,6 @@ use Rattle.entries.specs.Lines.{equals, item}
 use Rattle.entries.proofs.Steps.{on, short, last}
 use Rattle.entries.proofs.written.add_bound.Needs as need
 
-
 pub returns-in-Break-word-2 : need.returns-in-Break-word-2
 returns-in-Break-word-2 c =
     let p = err-from-errBy (c .from-residual-in-Break-word-2 .result) (c .from-residual-in-Break-word-2 .ensures .1) in

@@ -34,8 +34,7 @@ loop-p-again c =
     let n = c .args .count in
     let Z = at (c .args .zone .now .codes) in
     let k = c .loop-p .p in
-    let b = text (c .args .line .now) in
-    (
+    let b = text (c .args .line .now) in (
       c .in-Continue-any .ensures tt .0 ∙ any-more n Z k (c .loop-p .any) (c .loop-p .inv .0),
       on b (commas (items n Z k)) (placed (c .loop-p .any) k (seen n Z k)) (c .loop-p .inv .1) (c .in-Continue-any .ensures tt .1) ∙ ap (λ l. b ++ l) (sym (commas-more n Z k (c .loop-p .any) (c .loop-p .inv .0))),
     )

@@ -20,9 +20,9 @@ loop-p-again c =
       simp length-set (c .loop-p .inv .0),
       below-more _ _
           (λ k h.
-            let ne : k ≢ p = omega arith in
-            let e = code-other (c .loop-p .codes) p k (c .in-Some .code) ne in
-            (subst (Near 4000000) (sym e) (c .loop-p .inv .1 k h .0), ap decode e ∙ c .loop-p .inv .1 k h .1))
+          let ne : k ≢ p = omega arith in
+          let e = code-other (c .loop-p .codes) p k (c .in-Some .code) ne in
+          (subst (Near 4000000) (sym e) (c .loop-p .inv .1 k h .0), ap decode e ∙ c .loop-p .inv .1 k h .1))
           (subst (Near 4000000) (sym here) (c .in-Some .ensures tt .0), ap decode here ∙ c .in-Some .ensures tt .1),
     )
 
