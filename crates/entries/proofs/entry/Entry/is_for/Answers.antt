@@ -20,14 +20,9 @@ returns c =
     let s = sound xs (e .zone .ok) in
     let bs = c .zone-bounds-bounds .result in
     let is = c .zone-bounds-bounds .ensures in
-<<<<<<< HEAD
     let long : length xs ≡ 81 = search needs in
     let fits : e .round < 2 ^ 64 = search needs in (
       λ t. record { low = omega arith; high = omega arith; fits = fits; places = long; asks = subst (λ (k : ℕ). AsksNothing k xs) (c .get .ensures) (free-asks n xs s (listed-free n bs (at xs) is (c .free .ensures .0 t))) },
-=======
-    let long : length xs ≡ 81 = search needs in (
-      λ t. record { low = omega arith; high = omega arith; places = long; asks = subst (λ (k : ℕ). AsksNothing k xs) (c .get .ensures) (free-asks n xs s (listed-free n bs (at xs) is (c .free .ensures .0 t))) },
->>>>>>> ba3e5a8615245bb3781d0d65c004c3166c334a0b
       λ i. ⊎-elim {C = c .free .result ≡ true} (λ t. t)
           (λ f. let w = c .free .ensures .1 f in absurd (w .2 (free-listed n bs (at xs) is (asks-free n xs s (subst (λ (k : ℕ). AsksNothing k xs) (sym (c .get .ensures)) (i .asks))) (w .0) (w .1))))
           (cases-bool (c .free .result)),
