@@ -3,4 +3,3 @@ pub mod Covers
 pub mod Turns
 pub mod Finds
 pub mod Searching
-pub mod Listing

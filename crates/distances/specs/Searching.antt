@@ -1,4 +1,4 @@
--- A search over a plan and a store, by what it was and what it is then.
+-- A Search over a plan and a store, by what it was and what it is then.
 use mathlib.Core.Path.{_≡_}
 use mathlib.Core.Bool.{Bool}
 use mathlib.Core.List.{List}
@@ -21,7 +21,7 @@ use Rattle.rounds.specs.Searches.Reply.{widened, told, listed, refused}
 use Rattle.distances.specs.Rows.{rows}
 use Rattle.distances.specs.Turns.{Ready, Agrees}
 
--- the search as the state machine has it
+-- the Search as the state machine has it
 abbrev pub view : Phase → List Entry → ℕ → ℕ → Search
 view ph es m f = record { phase = ph; entries = rows es; room = m; rounds = f }
 
@@ -37,12 +37,12 @@ ask-reply (Err e) = refused e
 abbrev pub Fit : PlanMeaning → ℕ → Phase → List Entry → Type 0
 Fit M n ph es = (ph ≡ Unfit → ⊥) → Ready M n es
 
--- a reply and what the search is then are those of a step
+-- a reply and what the Search is then are those of a step
 pub record Stepped (t : Step) (r : Reply) (s : Search) : Type 0 where
   pub reply : r ≡ t .reply
   pub next : s ≡ t .next
 
--- an open search does its round
+-- an open Search does its round
 abbrev pub AdvanceSays : PlanMeaning → ℕ → (Entry → ℕ) → List Entry → ℕ → ℕ → Result ℕ Refusal → Phase → List Entry → ℕ → ℕ → Type 0
 AdvanceSays M n need es m f r ph′ fs k f′ = Ready M n es → f < 18446744073709551615 → (need′ : Row → ℕ) → Agrees need′ need
     → Stepped (ended f (length (rows es)) (round M need′ f (rows es) m)) (widen-reply r) (view ph′ fs k f′) × Ready M n fs
@@ -51,7 +51,7 @@ abbrev pub WidenSays : PlanMeaning → ℕ → (Entry → ℕ) → Phase → Lis
 WidenSays M n need ph es m f r ph′ fs k f′ = Fit M n ph es → f < 18446744073709551615 → (need′ : Row → ℕ) → Agrees need′ need
     → Stepped (step M need′ (view ph es m f) widen) (widen-reply r) (view ph′ fs k f′) × Fit M n ph′ fs
 
--- a search newly set up
+-- a Search newly set up
 pub record NewSays (M : PlanMeaning) (n : ℕ) (es : List Entry) (m : ℕ) (ph : Phase) (f : ℕ) : Type 0 where
   pub is : view ph es m f ≡ set-up (eqb n (M .clocks)) (rows es) m
   pub fit : Fit M n ph es
@@ -65,7 +65,7 @@ AskableTells M D p rs r = r ≡ askable M D p rs
 abbrev pub AskSays : PlanMeaning → ℕ → Phase → List Entry → ℕ → ℕ → ℕ → ℕ → List ℕ → Result Answer Refusal → Type 0
 AskSays M n ph es m f D p rs r = Fit M n ph es → (need′ : Row → ℕ) → ask-reply r ≡ step M need′ (view ph es m f) (ask D p rs) .reply
 
--- of a search that is not unfit
+-- of a Search that is not unfit
 abbrev pub TellSays : PlanMeaning → ℕ → Phase → List Entry → ℕ → ℕ → ℕ → ℕ → List ℕ → Result Answer Refusal → Type 0
 TellSays M n ph es m f D p rs r = Ready M n es → ask-reply r ≡ asked M (view ph es m f) D p rs
 

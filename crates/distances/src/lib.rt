@@ -1,4 +1,4 @@
 mod cover;
 mod find;
-pub mod search;
+pub mod finder;
 pub mod turns;

@@ -1,4 +1,4 @@
--- What the answers of a search under a deadline say of the plan below, whatever that plan is.
+-- What the answers of a Search under a deadline say of the plan below, whatever that plan is.
 use mathlib.Core.Path.{_≡_}
 use mathlib.Core.List.{List, [], _∷_, _++_}
 use Prim.Native.Nat.{ℕ, _≤_, _<_}
@@ -27,7 +27,7 @@ Says-timely M T ph f D p v (told-distance d) = TimelyDistance T M D p v d
 Says-timely M T ph f D p v NoRoute = (ph ≡ Closed) × ((n : ℕ) → TimelyRoute T M D p v n → ⊥)
 Says-timely M T ph f D p v (Untold g) = (ph ≡ Closed → ⊥) × (g ≡ f) × ((n : ℕ) → TimelyRoute T M D p v n → f ≤ n)
 
--- the same in words of the rounds of the search above
+-- the same in words of the rounds of the Search above
 abbrev pub Told-timely : PlanMeaning → ℕ → (Entry → ℕ) → ℕ → ℕ → ℕ → ℕ → (ℕ → ℕ) → Answer → Type 0
 Told-timely M T need room f D p v (told-distance d) = TimelyDistance T M D p v d
 Told-timely M T need room f D p v NoRoute = Closed-after (under T M) need room f × ((n : ℕ) → TimelyRoute T M D p v n → ⊥)

@@ -1,4 +1,4 @@
--- A search as a state machine, and what its replies mean.
+-- A Search as a state machine, and what its replies mean.
 use mathlib.Core.Path.{_≡_}
 use mathlib.Core.Bool.{Bool, true, false, cond, _&&_}
 use mathlib.Core.List.{List, [], _∷_, _++_}
@@ -44,11 +44,11 @@ pub record Step : Type 0 where
   pub reply : Reply
   pub next : Search
 
--- an answered widen that put none makes the search closed
+-- an answered widen that put none makes the Search closed
 abbrev pub phase-after : ℕ → ℕ → Phase
 phase-after before now = cond (eqb now before) Closed Open
 
--- what round f makes of a search with n entries
+-- what round f makes of a Search with n entries
 abbrev pub ended : ℕ → ℕ → Turn → Step
 ended f n (done fs room) = record { reply = widened (f + 1); next = record { phase = phase-after n (length fs); entries = fs; room = room; rounds = f + 1 } }
 ended f n (full fs room) = record { reply = refused refusal.Full; next = record { phase = Stopped; entries = fs; room = room; rounds = f } }
@@ -109,7 +109,7 @@ step M need s c = happens M need (s .phase) s c
 abbrev pub set-up : Bool → List Entry → ℕ → Search
 set-up same es room = record { phase = cond (same && eqb (length es) 0) Open Unfit; entries = es; room = room; rounds = 0 }
 
--- what a search replies to calls, and where they leave it
+-- what a Search replies to calls, and where they leave it
 unfoldable pub replies : PlanMeaning → (Entry → ℕ) → Search → List Call → List Reply
 replies M need s [] = []
 replies M need s (c ∷ cs) = step M need s c .reply ∷ replies M need (step M need s c .next) cs
@@ -151,7 +151,7 @@ Ends-range (done fs room) = ⊥
 Ends-range (full fs room) = ⊥
 Ends-range (range fs room) = Unit {0}
 
--- the round that a widen does on the search s
+-- the round that a widen does on the Search s
 abbrev pub next-round : PlanMeaning → (Entry → ℕ) → Search → Turn
 next-round M need s = round M need (s .rounds) (s .entries) (s .room)
 
@@ -171,7 +171,7 @@ By state room reach phase entry refusal.Phase = phase
 By state room reach phase entry refusal.Entry = entry
 By state room reach phase entry refusal.Buffer = ⊥
 
--- what a reply means: s is the search before the call, and f the number of widens answered before it
+-- what a reply means: s is the Search before the call, and f the number of widens answered before it
 abbrev pub Replied : PlanMeaning → (Entry → ℕ) → Search → ℕ → Call → Reply → Type 0
 Replied M need s f widen (widened n) = (s .phase ≡ Open) × Ends-well (next-round M need s) × (n ≡ f + 1)
 Replied M need s f widen (told a) = ⊥

@@ -1,4 +1,4 @@
--- What the entries of a search stand for.
+-- What the entries of a Search stand for.
 use mathlib.Core.Path.{_≡_}
 use mathlib.Core.List.{List, [], _∷_, _++_}
 use Prim.Native.Nat.{ℕ, zero, suc, _+_, _-_, _≤_, _<_}

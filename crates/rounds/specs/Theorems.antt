@@ -1,4 +1,4 @@
--- The theorems of the search, for every lawful time domain, well-formed plan and store.
+-- The theorems of the Search, for every lawful time domain, well-formed plan and store.
 use mathlib.Core.Path.{_≡_}
 use mathlib.Core.Bool.{Bool, true, false, cond}
 use mathlib.Core.List.{List, [], _∷_, _++_}
@@ -44,7 +44,7 @@ module _ (M : PlanMeaning) (need : Entry → ℕ) where
   abbrev pub Answers-say : Type 0
   Answers-say = (es : List Entry) (f : ℕ) (ph : Phase) → (ph ≡ Unfit → ⊥) → Stands M es f ph → (D p : ℕ) (v : ℕ → ℕ) → Scale M D → Says M ph f D p v (answer ph f (find es D p v))
 
-  -- a search newly set up keeps the law at each call of any list of calls
+  -- a Search newly set up keeps the law at each call of any list of calls
   abbrev pub Runs-lawful : Type 0
   Runs-lawful = (same : Bool) (es : List Entry) (room : ℕ) (cs : List Call) → Law M need (set-up same es room) cs (replies M need (set-up same es room) cs)
 

@@ -20,7 +20,7 @@ pub fn rounds_are_caused() -> u8
 }
 
 // For every lawful time domain, well-formed plan and store: what stands, what is held, what an answer says, and the law over runs.
-pub fn search_stands() -> u8
+pub fn answers_stand() -> u8
     ensures { λ _. ⌜ Search-stands ⌝ }
 {
     0

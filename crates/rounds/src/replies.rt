@@ -1,4 +1,4 @@
-// Where a search stands: rounds may follow; the last round put nothing; a round was refused; or its store was not fit for it at set-up.
+// Where a Search stands: rounds may follow; the last round put nothing; a round was refused; or its store was not fit for it at set-up.
 #[derive(Clone, Copy)]
 pub enum Phase {
     Open,

@@ -10,8 +10,6 @@ use rounds::replies::Phase;
 use stores::store::Store;
 use zones::state::State;
 
-mod reading;
-
 // The phase at set-up.
 fn first_phase<P: Plan, S: Store>(plan: &P, store: &S) -> Phase
     ensures { λ r. ⌜ NewSays (P·Plan .meaning (now (plan .entry))) (S·Store .dimension (now (store .entry))) (S·Store .entries (now (store .entry))) (S·Store .room (now (store .entry))) r 0 ⌝ }
@@ -25,7 +23,7 @@ fn first_phase<P: Plan, S: Store>(plan: &P, store: &S) -> Phase
     Phase::Open
 }
 
-// A search for distances: one plan, one store, its phase and the rounds that are finished.
+// A Search for distances: one plan, one store, its phase and the rounds that are finished.
 #[derive(Drop)]
 pub struct Search<P: Plan, S: Store> {
     plan: P,
@@ -55,7 +53,7 @@ fn is_askable<P: Plan>(plan: &P, position: usize, state: &State) -> bool
 }
 
 impl<P: Plan, S: Store> Search<P, S> {
-    // A search over the plan, and over a store for its clocks that is empty; else it is unfit.
+    // A Search over the plan, and over a store for its clocks that is empty; else it is unfit.
     pub fn new(plan: P, store: S) -> Search<P, S>
         ensures says { λ r. ⌜ NewSays (P·Plan .meaning plan) (S·Store .dimension store) (S·Store .entries store) (S·Store .room store) (r .phase) (r .rounds) ⌝ }
         ensures plan { λ r. ⌜ r .plan ≡ plan ⌝ }
@@ -70,7 +68,7 @@ impl<P: Plan, S: Store> Search<P, S> {
         }
     }
 
-    // Does the next round, of an open search.
+    // Does the next round, of an open Search.
     fn advance(&mut self) -> Result<u64, Refusal>
         requires { ⌜ now self .phase ≡ Open ⌝ }
         ensures says { λ r. ⌜ AdvanceSays (P·Plan .meaning (now (self .entry) .plan)) (S·Store .dimension (now (self .entry) .store)) (S·Store .need (S·Store .dimension (now (self .entry) .store))) (S·Store .entries (now (self .entry) .store)) (S·Store .room (now (self .entry) .store)) (now (self .entry) .rounds) r (now (self .exit) .phase) (S·Store .entries (now (self .exit) .store)) (S·Store .room (now (self .exit) .store)) (now (self .exit) .rounds) ⌝ }
@@ -109,7 +107,7 @@ impl<P: Plan, S: Store> Search<P, S> {
         }
     }
 
-    // The answer for a state, of a search that is not unfit.
+    // The answer for a state, of a Search that is not unfit.
     fn tell(&self, position: usize, state: &State) -> Result<Answer, Refusal>
         ensures { λ r. ⌜ TellSays (P·Plan .meaning (now (self .entry) .plan)) (S·Store .dimension (now (self .entry) .store)) (now (self .entry) .phase) (S·Store .entries (now (self .entry) .store)) (S·Store .room (now (self .entry) .store)) (now (self .entry) .rounds) (now (state .entry) .scale) position (now (now (state .entry) .readings)) r ⌝ }
     {

@@ -6,7 +6,7 @@ use Rattle.distances.proofs.Asked.{ask-fit, ask-unfit}
 use Rattle.distances.proofs.Means.{ask-means}
 use Rattle.bounds.specs.declared.refusal.Refusal.the-variants as refused
 use Rattle.std.specs.declared.result.Result.the-variants.{Err}
-use Rattle.distances.proofs.search.Search.ask.Needs as need
+use Rattle.distances.proofs.finder.Search.ask.Needs as need
 
 open-fit : Open ≡ Unfit → ⊥
 open-fit e = let z : _≡_ {A = ℕ} 0 1 = cc in omega arith

@@ -3,7 +3,7 @@ use native.Mathlib.Omega.{arith}
 use Rattle.std.specs.declared.result.Result.the-variants.{Ok}
 use Rattle.distances.specs.Searching.{AdvanceSays}
 use Rattle.distances.proofs.Searched.{advance-refused, advance-closed, advance-open}
-use Rattle.distances.proofs.search.Search.advance.Needs as need
+use Rattle.distances.proofs.finder.Search.advance.Needs as need
 
 pub returns-in-Err : need.returns-in-Err
 returns-in-Err g c =

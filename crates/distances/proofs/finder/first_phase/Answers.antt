@@ -1,6 +1,6 @@
 use mathlib.Core.Path.{_≡_, sym, _∙_}
 use Rattle.distances.proofs.Asked.{some-entries, all-fit}
-use Rattle.distances.proofs.search.first_phase.Needs as need
+use Rattle.distances.proofs.finder.first_phase.Needs as need
 
 pub returns-then-count-ne0 : need.returns-then-count-ne0
 returns-then-count-ne0 g c =

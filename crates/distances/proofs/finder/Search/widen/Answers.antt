@@ -3,7 +3,7 @@ use Rattle.distances.proofs.Searched.{widen-open, widen-idle, closed-open, sto
 use Rattle.distances.proofs.Means.{widen-means}
 use Rattle.bounds.specs.declared.refusal.Refusal.the-variants as refused
 use Rattle.std.specs.declared.result.Result.the-variants.{Err}
-use Rattle.distances.proofs.search.Search.widen.Needs as need
+use Rattle.distances.proofs.finder.Search.widen.Needs as need
 
 pub returns-in-Open : need.returns-in-Open
 returns-in-Open g c =

@@ -1,7 +1,7 @@
 use mathlib.Core.Path.{_≡_, sym, _∙_}
 use native.Mathlib.Omega.{arith}
 use Rattle.distances.proofs.Asked.{not-askable, good-askable, askable-good}
-use Rattle.distances.proofs.search.is_askable.Needs as need
+use Rattle.distances.proofs.finder.is_askable.Needs as need
 
 pub returns-then-position-lt1 : need.returns-then-position-lt1
 returns-then-position-lt1 g c =

@@ -6,7 +6,7 @@ use Rattle.rounds.specs.declared.replies.Phase.the-variants.{Open, Closed, Stop
 use Prim.Native.Nat.{ℕ}
 use Rattle.rounds.specs.Searches.{answer}
 use Rattle.distances.proofs.Asked.{tell-answer}
-use Rattle.distances.proofs.search.Search.tell.Needs as need
+use Rattle.distances.proofs.finder.Search.tell.Needs as need
 
 some-answer : (p : Phase) (f d : ℕ) → Distance d ≡ answer p f (Some d)
 some-answer Open f d = refl
