@@ -4,3 +4,4 @@ pub mod LineWalks
 pub mod LineFacts
 pub mod StateFacts
 pub mod Runs
+pub mod Telling

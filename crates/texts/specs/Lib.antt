@@ -8,3 +8,4 @@ pub mod RowReads
 pub mod States
 pub mod Lines
 pub mod Texts
+pub mod FaultLines

@@ -1,5 +1,6 @@
 mod boxes;
 pub mod fault;
+mod fault_line;
 mod field;
 pub mod header;
 mod line;

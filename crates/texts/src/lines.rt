@@ -200,7 +200,8 @@ pub fn torn_line<'t>(
     let first = line.next_field(&mut fields)?;
     let letter = letter_of(first.bytes);
     settle_by(letter, progress, rows)?;
-    Err(line.fault(Refusal::Line))
+    let torn = line.fault(Refusal::Line);
+    Err(torn)
 }
 
 // The end of the text, as the line after the last.
