@@ -112,8 +112,9 @@ joins-first b at (p ∷ ps) h = refl
 pub parted-not-empty : (b at : ℕ) (xs : List ℕ) → parted b at xs ≡ [] → ⊥
 parted-not-empty b at [] e = let z : _≡_ {A = ℕ} 0 1 = cc in omega arith
 parted-not-empty b at (x ∷ xs) e0 = elim (eqb x b) as (λ t. cond t (record { bytes = []; at = at } ∷ parted b (at + 1) xs) (onto x at (parted b (at + 1) xs)) ≡ [] → ⊥) [
-    true ↦ λ e. let z : _≡_ {A = ℕ} 0 1 = cc in omega arith
-  | false ↦ elim (parted b (at + 1) xs) as (λ ps. onto x at ps ≡ [] → ⊥) [ [] ↦ λ e. let z : _≡_ {A = ℕ} 0 1 = cc in omega arith | p ∷ ps ↦ λ e. let z : _≡_ {A = ℕ} 0 1 = cc in omega arith ] ] e0
+  | true ↦ λ e. let z : _≡_ {A = ℕ} 0 1 = cc in omega arith
+  | false ↦ elim (parted b (at + 1) xs) as (λ ps. onto x at ps ≡ [] → ⊥) [ [] ↦ λ e. let z : _≡_ {A = ℕ} 0 1 = cc in omega arith | p ∷ ps ↦ λ e. let z : _≡_ {A = ℕ} 0 1 = cc in omega arith ]
+] e0
 
 -- a text is its parts with the mark between them
 pub joins-parted : (b at : ℕ) (xs : List ℕ) → joins b (parted b at xs) ≡ xs
@@ -121,6 +122,6 @@ joins-parted b at [] = refl
 joins-parted b at (x ∷ xs) =
     let more = joins-parted b (at + 1) xs in
     elim (eqb x b) as (λ t. (t ≡ true → x ≡ b) → joins b (cond t (record { bytes = []; at = at } ∷ parted b (at + 1) xs) (onto x at (parted b (at + 1) xs))) ≡ x ∷ xs) [
-      true ↦ λ is. joins-first b at (parted b (at + 1) xs) (parted-not-empty b (at + 1) xs) ∙ (λ i. sym (is refl) i ∷ more i)
-    | false ↦ λ is. joins-onto b x at (parted b (at + 1) xs) ∙ ap (λ l. x ∷ l) more
+      | true ↦ λ is. joins-first b at (parted b (at + 1) xs) (parted-not-empty b (at + 1) xs) ∙ (λ i. sym (is refl) i ∷ more i)
+      | false ↦ λ is. joins-onto b x at (parted b (at + 1) xs) ∙ ap (λ l. x ∷ l) more
     ] (λ t. grind (arith, tells))

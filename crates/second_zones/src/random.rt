@@ -1,6 +1,6 @@
+use crate::rounds::PlainPlan;
 use bounds::bound::Bound;
 use bounds::time::PlanTime;
-use crate::rounds::PlainPlan;
 use plans::rows::Goal;
 use plans::rows::Move;
 use plans::rows::Outcome;
@@ -39,8 +39,7 @@ impl Numbers {
 
     // The next number below the limit, or 0 where that is 0.
     pub fn next(&mut self, limit: u32) -> u32 {
-        self.last = self
-            .last
+        self.last = self.last
             .wrapping_mul(6_364_136_223_846_793_005)
             .wrapping_add(1_442_695_040_888_963_407);
         let high = ((self.last >> 33) & 0x7fff_ffff) as u32;
