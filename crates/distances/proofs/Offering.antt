@@ -3,7 +3,7 @@ use mathlib.Core.Path.{_≡_, refl, sym, ap, subst, _∙_}
 use mathlib.Core.Logic.{_⊎_, ⊎-elim}
 use mathlib.Core.Bool.{Bool, true, false, cond}
 use mathlib.Core.List.{List, [], _∷_, _++_, map}
-use Prim.Native.Nat.{ℕ, zero, suc, _+_, _-_, _≤_, _<_}
+use Prim.Native.Nat.{ℕ, zero, suc, _+_, _-_, _^_, _≤_, _<_}
 use native.Mathlib.Omega.{arith}
 use borrow.Author.Differences.{ints}
 use lib.Dec.{leb}
@@ -73,10 +73,11 @@ asks-nothing n xs z u D v w big rv rw same h i j hi hj = ⊎-elim {C = Meets D (
     low : (a b c d : ℤ) → a ≡ b → d ≡ pos 0 → pos 0 ≤ℤ c → (a -ℤ c) ≤ℤ (b -ℤ d)
     low a b c d e f g = omega (arith, ints)
 
-pub is-entry : (M : PlanMeaning) → WellFormed M → (n : ℕ) → n ≡ M .clocks → (e : Entry) → EntryOf M (row e) → IsEntry n e
-is-entry M formed n q e f = record {
+pub is-entry : (M : PlanMeaning) → WellFormed M → (n : ℕ) → n ≡ M .clocks → (e : Entry) → e .round < 2 ^ 64 → EntryOf M (row e) → IsEntry n e
+is-entry M formed n q e small f = record {
   low = f .first;
   high = omega (arith, f .last, formed .few-positions);
+  fits = small;
   places = f .zone .codes .many;
   asks = asks-nothing n (e .zone .codes) (f .zone .codes) (subst (λ m. Unasked m (at (e .zone .codes))) (sym q) (f .zone .unasked));
 }
@@ -135,9 +136,9 @@ module _ (M : PlanMeaning) (formed : WellFormed M) (n : ℕ) (need : Entry → �
     unfolding tried offer
     offered t = ap (λ x. tried need′ f p x (rows es) m) is ∙ cond-false (covering (rows es) p (z .codes)) _ _ (sym covered ∙ t)
 
-    pub offer-put : b ≡ false → (r : Result (Unit {0}) Refusal) (fs : List Entry) (k : ℕ) → PutSays n (need new) new es m r fs k → Turned M n (tried need′ f p o (rows es) m) r fs k
+    pub offer-put : b ≡ false → f < 2 ^ 64 → (r : Result (Unit {0}) Refusal) (fs : List Entry) (k : ℕ) → PutSays n (need new) new es m r fs k → Turned M n (tried need′ f p o (rows es) m) r fs k
     unfolding put
-    offer-put t (Ok u) fs k s =
+    offer-put t small (Ok u) fs k s =
         let q : rows fs ≡ rows es ++ (row new ∷ []) = ap rows (s .entries) ∙ rows-push es new in
         let a : need′ (row new) ≡ need new = agrees new in
         record {
@@ -149,21 +150,21 @@ module _ (M : PlanMeaning) (formed : WellFormed M) (n : ℕ) (need : Entry → �
                 (pushed-all (EntryOf M) (rows es) (row new) (λ j l. ready .fits j (omega (arith, many-rows es))) entry i (omega (arith, many-rows fs, ap length q)));
           };
         }
-    offer-put t (Err refused.Name) fs k s = absurd (s .none (is-entry M formed n (ready .clocks) new entry))
-    offer-put t (Err refused.Full) fs k s =
+    offer-put t small (Err refused.Name) fs k s = absurd (s .none (is-entry M formed n (ready .clocks) new small entry))
+    offer-put t small (Err refused.Full) fs k s =
         let a : need′ (row new) ≡ need new = agrees new in
         record {
           ends = offered t ∙ cond-false (leb (need′ (row new)) m) _ _ (lt-leb _ _ (omega (arith, a, s .over))) ∙ ap (λ es′. full (rows es′) m) (sym (s .entries)) ∙ ap (full (rows fs)) (sym (s .room));
           ready = subst (Ready M n) (sym (s .entries)) ready;
         }
-    offer-put t (Err refused.Line) fs k s = absurd s
-    offer-put t (Err refused.Order) fs k s = absurd s
-    offer-put t (Err refused.Number) fs k s = absurd s
-    offer-put t (Err refused.Chance) fs k s = absurd s
-    offer-put t (Err refused.Rows) fs k s = absurd s
-    offer-put t (Err refused.Clocks) fs k s = absurd s
-    offer-put t (Err refused.State) fs k s = absurd s
-    offer-put t (Err refused.Range) fs k s = absurd s
-    offer-put t (Err refused.Phase) fs k s = absurd s
-    offer-put t (Err refused.Entry) fs k s = absurd s
-    offer-put t (Err refused.Buffer) fs k s = absurd s
+    offer-put t small (Err refused.Line) fs k s = absurd s
+    offer-put t small (Err refused.Order) fs k s = absurd s
+    offer-put t small (Err refused.Number) fs k s = absurd s
+    offer-put t small (Err refused.Chance) fs k s = absurd s
+    offer-put t small (Err refused.Rows) fs k s = absurd s
+    offer-put t small (Err refused.Clocks) fs k s = absurd s
+    offer-put t small (Err refused.State) fs k s = absurd s
+    offer-put t small (Err refused.Range) fs k s = absurd s
+    offer-put t small (Err refused.Phase) fs k s = absurd s
+    offer-put t small (Err refused.Entry) fs k s = absurd s
+    offer-put t small (Err refused.Buffer) fs k s = absurd s

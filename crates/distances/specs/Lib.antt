@@ -3,3 +3,4 @@ pub mod Covers
 pub mod Turns
 pub mod Finds
 pub mod Searching
+pub mod Listing

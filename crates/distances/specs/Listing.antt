@@ -20,7 +20,7 @@ Listed n es k buf r buf′ =
     ((e : Entry) × (1 ≤ k) × (k ≤ length es) × (e ≡ getD es (k - 1) e) × WriteSays (line n e) buf r buf′)
     ⊎ ((1 ≤ k → length es < k) × (r ≡ Err refused.Entry) × (buf′ ≡ buf))
 
--- an unfit search is refused by Phase first
+-- an unfit one is refused by Phase first
 abbrev pub ListSays : ℕ → Phase → List Entry → ℕ → List ℕ → Result ℕ Refusal → List ℕ → Type 0
 ListSays n Open es k buf r buf′ = Listed n es k buf r buf′
 ListSays n Closed es k buf r buf′ = Listed n es k buf r buf′

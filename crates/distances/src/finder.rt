@@ -10,6 +10,8 @@ use rounds::replies::Phase;
 use stores::store::Store;
 use zones::state::State;
 
+mod reading;
+
 // The phase at set-up.
 fn first_phase<P: Plan, S: Store>(plan: &P, store: &S) -> Phase
     ensures { λ r. ⌜ NewSays (P·Plan .meaning (now (plan .entry))) (S·Store .dimension (now (store .entry))) (S·Store .entries (now (store .entry))) (S·Store .room (now (store .entry))) r 0 ⌝ }

@@ -1,4 +1,4 @@
--- The lines that say how a text was refused and where a search stands.
+-- The lines that say how a text was refused and where a Search stands.
 use mathlib.Core.Path.{_≡_}
 use mathlib.Core.List.{List, [], _∷_, _++_}
 use Prim.Native.Nat.{ℕ}

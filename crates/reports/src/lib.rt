@@ -57,7 +57,7 @@ fn status_report(phase: Phase, rounds: u64) -> Result<Line, Refusal>
     Ok(report)
 }
 
-// Writes the line of where a search stands, `S`, tab, the phase, tab, the finished rounds, byte 10, at the start of the buffer, and
+// Writes the line of where a Search stands, `S`, tab, the phase, tab, the finished rounds, byte 10, at the start of the buffer, and
 // leaves the bytes after it; answers its length. A shorter buffer is refused by Buffer, and left as it was.
 pub fn write_status(phase: Phase, rounds: u64, buffer: &mut [u8]) -> Result<usize, Refusal>
     ensures { λ r. ⌜ WriteSays (status-line phase rounds) (now (buffer .entry)) r (now (buffer .exit)) ⌝ }

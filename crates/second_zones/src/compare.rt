@@ -4,7 +4,7 @@ use crate::rounds::play;
 use crate::text::line_of;
 use bounds::time::PlanDomain as _;
 use bounds::time::TimeDomain;
-use distances::search::Search;
+use distances::finder::Search;
 use entries::clock_count::ClockCount;
 use entries::entry::Entry;
 use plans::plan::Plan;
@@ -17,7 +17,7 @@ use stores::row_store::RowStored as _;
 use stores::store::Store;
 use zones::zone::Zone;
 
-// How many rounds are compared, unless the search closes before.
+// How many rounds are compared, unless the last one put nothing before.
 const ROUNDS: u64 = 8;
 
 // How many entries there is room for.
@@ -57,33 +57,33 @@ fn compare_plan<P: Plan + Drop>(heap: Global, plan: P, held: &[Held]) -> Result<
                 round: 0,
                 zone: Zone::all(),
             }; ROOM];
-            let mut search = Search::new(plan, RowStore::new(clocks, &mut rows));
+            let mut finder = Search::new(plan, RowStore::new(clocks, &mut rows));
             for _ in 0..ROUNDS {
-                if search.widen().is_err() {
+                if finder.widen().is_err() {
                     break;
                 }
             }
-            compare_search(heap, &search, held, clocks.get())
+            compare_entries(heap, &finder, held, clocks.get())
         }
         Err(_) => Err("no such clock count".into()),
     }
 }
 
-fn compare_search<P: Plan, S: Store>(
+fn compare_entries<P: Plan, S: Store>(
     heap: Global,
-    search: &Search<P, S>,
+    finder: &Search<P, S>,
     held: &[Held],
     clocks: usize,
 ) -> Result<usize, AnyError> {
     let mut buffer = [0; 1200];
     for (k, one) in held.iter().enumerate() {
         let line = line_of(heap, one, clocks)?;
-        match search.list(k + 1, &mut buffer) {
+        match finder.list(k + 1, &mut buffer) {
             Ok(length) => same(&buffer, length, line.as_bytes())?,
             Err(_) => return Err("the second library has more entries".into()),
         }
     }
-    if search.list(held.len() + 1, &mut buffer).is_ok() {
+    if finder.list(held.len() + 1, &mut buffer).is_ok() {
         return Err("the second library has fewer entries".into());
     }
     Ok(held.len())

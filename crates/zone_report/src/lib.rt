@@ -1,7 +1,7 @@
 use bounds::refusal::Refusal;
 use bounds::time::PlanDomain as _;
 use bounds::time::TimeDomain;
-use distances::search::Search;
+use distances::finder::Search;
 use entries::clock_count::ClockCount;
 use grammar::read_written_plan;
 use grammar::table::table_over;
@@ -29,10 +29,10 @@ const FREE: Side = Side {
 
 const ANYWHERE: ClockBox = ClockBox { sides: [FREE; 8] };
 
-// How many bytes the store of a printed search has.
+// How many bytes the store has.
 const STORE_BYTES: usize = 32_768;
 
-// Reads a plan from its text, widens a search over it until it is refused, and prints the lines of the entries and where the search stands.
+// Reads a plan from its text, widens over it until that is refused, and prints the lines of the entries, and then the phase and the finished rounds.
 // Of a text that is refused it prints how and where.
 pub fn print_text(rt: &LibcRuntime, text: &[u8]) -> io::Result<()> {
     let mut positions = [Position {
@@ -79,31 +79,31 @@ pub fn print_plan<P: Plan + Drop>(rt: &LibcRuntime, plan: P) -> io::Result<()> {
         Ok(clocks) => {
             let mut bytes = [0; STORE_BYTES];
             let store = LineStore::new(clocks, &mut bytes);
-            let mut search = Search::new(plan, store);
-            print_search(rt, &mut search)
+            let mut finder = Search::new(plan, store);
+            print_entries(rt, &mut finder)
         }
         Err(why) => print_fault(rt, why, 0),
     }
 }
 
-// The same for any search.
-pub fn print_search<P: Plan, S: Store>(
+// The same over any store.
+pub fn print_entries<P: Plan, S: Store>(
     rt: &LibcRuntime,
-    search: &mut Search<P, S>,
+    finder: &mut Search<P, S>,
 ) -> io::Result<()> {
     for _ in 0..u64::MAX {
-        if search.widen().is_err() {
+        if finder.widen().is_err() {
             break;
         }
     }
     let mut buffer = [0; 1200];
     for k in 1..usize::MAX {
-        match search.list(k, &mut buffer) {
+        match finder.list(k, &mut buffer) {
             Ok(length) => print_line(rt, &buffer, length)?,
             Err(_) => break,
         }
     }
-    match write_status(search.phase(), search.rounds(), &mut buffer) {
+    match write_status(finder.phase(), finder.rounds(), &mut buffer) {
         Ok(length) => print_line(rt, &buffer, length),
         Err(_) => Ok(()),
     }
