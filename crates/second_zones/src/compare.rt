@@ -12,6 +12,8 @@ use plans::table::PlanOfTable as _;
 use plans::table::TablePlan;
 use std::alloc::Global;
 use std::error::AnyError;
+use stores::loan::LentStore as _;
+use stores::loan::OnLoan;
 use stores::row_store::RowStore;
 use stores::row_store::RowStored as _;
 use stores::store::Store;
@@ -57,16 +59,34 @@ fn compare_plan<P: Plan + Drop>(heap: Global, plan: P, held: &[Held]) -> Result<
                 round: 0,
                 zone: Zone::all(),
             }; ROOM];
-            let mut finder = Search::new(plan, RowStore::new(clocks, &mut rows));
-            for _ in 0..ROUNDS {
-                if finder.widen().is_err() {
-                    break;
-                }
-            }
-            compare_entries(heap, &finder, held, clocks.get())
+            let count = clocks.get();
+            compare_over(
+                heap,
+                plan,
+                &mut RowStore::new(clocks, &mut rows),
+                held,
+                count,
+            )
         }
         Err(_) => Err("no such clock count".into()),
     }
+}
+
+fn compare_over<P: Plan + Drop, S: Store>(
+    heap: Global,
+    plan: P,
+    store: &mut S,
+    held: &[Held],
+    clocks: usize,
+) -> Result<usize, AnyError> {
+    let mut finder = Search::new(plan, OnLoan::new(store));
+    for _ in 0..ROUNDS {
+        if finder.widen().is_err() {
+            break;
+        }
+    }
+    let mut buffer = [0; 1200];
+    compare_entries(heap, &finder, held, clocks, &mut buffer)
 }
 
 fn compare_entries<P: Plan, S: Store>(
@@ -74,16 +94,16 @@ fn compare_entries<P: Plan, S: Store>(
     finder: &Search<P, S>,
     held: &[Held],
     clocks: usize,
+    buffer: &mut [u8],
 ) -> Result<usize, AnyError> {
-    let mut buffer = [0; 1200];
     for (k, one) in held.iter().enumerate() {
         let line = line_of(heap, one, clocks)?;
-        match finder.list(k + 1, &mut buffer) {
-            Ok(length) => same(&buffer, length, line.as_bytes())?,
+        match finder.list(k + 1, buffer) {
+            Ok(length) => same(buffer, length, line.as_bytes())?,
             Err(_) => return Err("the second library has more entries".into()),
         }
     }
-    if finder.list(held.len() + 1, &mut buffer).is_ok() {
+    if finder.list(held.len() + 1, buffer).is_ok() {
         return Err("the second library has fewer entries".into());
     }
     Ok(held.len())

@@ -13,10 +13,13 @@ use plans::rows::Position;
 use plans::table::PlanOfTable as _;
 use reports::write_fault;
 use reports::write_status;
+use rounds::replies::Phase;
 use std::io;
 use std::io::Write;
 use stores::line_store::LineStore;
 use stores::line_store::LineStored as _;
+use stores::loan::LentStore as _;
+use stores::loan::OnLoan;
 use stores::store::Store;
 use texts::plan_rows::PlanRows;
 use zones::boxes::ClockBox;
@@ -31,6 +34,9 @@ const ANYWHERE: ClockBox = ClockBox { sides: [FREE; 8] };
 
 // How many bytes the store has.
 const STORE_BYTES: usize = 32_768;
+
+// No line that is printed is longer.
+const LONGEST: usize = 1200;
 
 // Reads a plan from its text, widens over it until that is refused, and prints the lines of the entries, and then the phase and the finished rounds.
 // Of a text that is refused it prints how and where.
@@ -78,39 +84,53 @@ pub fn print_plan<P: Plan + Drop>(rt: &LibcRuntime, plan: P) -> io::Result<()> {
     match ClockCount::new(plan.clocks()) {
         Ok(clocks) => {
             let mut bytes = [0; STORE_BYTES];
-            let store = LineStore::new(clocks, &mut bytes);
-            let mut finder = Search::new(plan, store);
-            print_entries(rt, &mut finder)
+            print_over(rt, plan, &mut LineStore::new(clocks, &mut bytes))
         }
         Err(why) => print_fault(rt, why, 0),
     }
 }
 
 // The same over any store.
-pub fn print_entries<P: Plan, S: Store>(
+pub fn print_over<P: Plan + Drop, S: Store>(
     rt: &LibcRuntime,
-    finder: &mut Search<P, S>,
+    plan: P,
+    store: &mut S,
 ) -> io::Result<()> {
+    let mut finder = Search::new(plan, OnLoan::new(store));
     for _ in 0..u64::MAX {
         if finder.widen().is_err() {
             break;
         }
     }
-    let mut buffer = [0; 1200];
+    let mut buffer = [0; LONGEST];
+    print_entries(rt, &finder, &mut buffer)?;
+    print_status(rt, finder.phase(), finder.rounds(), &mut buffer)
+}
+
+// Prints the entries, one line each.
+fn print_entries<P: Plan, S: Store>(
+    rt: &LibcRuntime,
+    finder: &Search<P, S>,
+    buffer: &mut [u8],
+) -> io::Result<()> {
     for k in 1..usize::MAX {
-        match finder.list(k, &mut buffer) {
-            Ok(length) => print_line(rt, &buffer, length)?,
+        match finder.list(k, buffer) {
+            Ok(length) => print_line(rt, buffer, length)?,
             Err(_) => break,
         }
     }
-    match write_status(finder.phase(), finder.rounds(), &mut buffer) {
-        Ok(length) => print_line(rt, &buffer, length),
+    Ok(())
+}
+
+fn print_status(rt: &LibcRuntime, phase: Phase, rounds: u64, buffer: &mut [u8]) -> io::Result<()> {
+    match write_status(phase, rounds, buffer) {
+        Ok(length) => print_line(rt, buffer, length),
         Err(_) => Ok(()),
     }
 }
 
 fn print_fault(rt: &LibcRuntime, refusal: Refusal, line: usize) -> io::Result<()> {
-    let mut buffer = [0; 1200];
+    let mut buffer = [0; LONGEST];
     match write_fault(refusal, line, &mut buffer) {
         Ok(length) => print_line(rt, &buffer, length),
         Err(_) => Ok(()),
