@@ -1,4 +1,4 @@
--- The lines that say how a text was refused and where a Search stands.
+-- The line that says where a Search stands.
 use mathlib.Core.Path.{_≡_}
 use mathlib.Core.List.{List, [], _∷_, _++_}
 use Prim.Native.Nat.{ℕ}
@@ -7,15 +7,10 @@ use lib.Chars.{codes}
 use Rattle.std.specs.declared.result.Result.{Result}
 use Rattle.std.specs.declared.result.Result.the-variants.{Ok, Err}
 use Rattle.bounds.specs.declared.refusal.Refusal.{Refusal}
-use Rattle.bounds.specs.Refusals.{number}
 use Rattle.bytes.specs.declared.line.Line.{Line}
 use Rattle.bytes.specs.Lines.{text}
 use Rattle.rounds.specs.declared.replies.Phase.{Phase}
 use Rattle.rounds.specs.declared.replies.Phase.the-variants.{Open, Closed, Stopped, Unfit}
-
--- `E`, tab, number, tab, line, byte 10
-abbrev pub fault-line : Refusal → ℕ → List ℕ
-fault-line refusal line = 69 ∷ 9 ∷ (decimal (number refusal) ++ (9 ∷ (decimal line ++ (10 ∷ []))))
 
 abbrev pub phase-word : Phase → List ℕ
 phase-word Open = codes "open"

@@ -2,34 +2,10 @@ ghost use mathlib.Core.Path.{_≡_};
 ghost use Prim.Native.Nat.{_≤_};
 ghost use lib.ListN.{length};
 ghost use Rattle.bytes.specs.Lines.{WriteSays};
-ghost use Rattle.reports.specs.Reports.{fault-line, status-line, phase-word, ReportSays};
+ghost use Rattle.reports.specs.Reports.{status-line, phase-word, ReportSays};
 use bounds::refusal::Refusal;
 use bytes::line::Line;
 use rounds::replies::Phase;
-
-// `E`, tab, the refusal's number, tab, the line of the text, byte 10. It is never refused.
-fn fault_report(refusal: Refusal, line: usize) -> Result<Line, Refusal>
-    ensures { λ r. ⌜ ReportSays (fault-line refusal line) r ⌝ }
-{
-    let mut report = Line::new();
-    report.word(b"E\t")?;
-    report.number(u64::from(refusal.number()))?;
-    report.word(b"\t")?;
-    report.number(line as u64)?;
-    report.word(b"\n")?;
-    Ok(report)
-}
-
-// Writes the line of a refused text, `E`, tab, the refusal's number, tab, the line of the text, byte 10, at the start of the buffer, and
-// leaves the bytes after it; answers its length. A shorter buffer is refused by Buffer, and left as it was.
-pub fn write_fault(refusal: Refusal, line: usize, buffer: &mut [u8]) -> Result<usize, Refusal>
-    ensures { λ r. ⌜ WriteSays (fault-line refusal line) (now (buffer .entry)) r (now (buffer .exit)) ⌝ }
-{
-    match fault_report(refusal, line) {
-        Ok(text) => text.write(buffer),
-        Err(why) => Err(why),
-    }
-}
 
 // The word for a phase.
 fn phase_name(phase: Phase) -> &'static [u8]

@@ -1,4 +1,3 @@
-use bounds::refusal::Refusal;
 use bounds::time::PlanDomain as _;
 use bounds::time::TimeDomain;
 use distances::finder::Search;
@@ -11,7 +10,6 @@ use plans::rows::Move;
 use plans::rows::Outcome;
 use plans::rows::Position;
 use plans::table::PlanOfTable as _;
-use reports::write_fault;
 use reports::write_status;
 use rounds::replies::Phase;
 use std::io;
@@ -21,6 +19,7 @@ use stores::line_store::LineStored as _;
 use stores::loan::LentStore as _;
 use stores::loan::OnLoan;
 use stores::store::Store;
+use texts::fault::TextFault;
 use texts::plan_rows::PlanRows;
 use zones::boxes::ClockBox;
 use zones::boxes::Side;
@@ -62,7 +61,7 @@ pub fn print_text(rt: &LibcRuntime, text: &[u8]) -> io::Result<()> {
     let mut rows = PlanRows::over(&mut positions, &mut moves, &mut outcomes, &mut goals);
     match read_written_plan(text, &mut rows) {
         Ok(header) => print_rows(rt, header.time, header.clocks, &rows),
-        Err(fault) => print_fault(rt, fault.refusal, fault.line),
+        Err(fault) => print_fault(rt, &fault),
     }
 }
 
@@ -75,18 +74,18 @@ fn print_rows<T: TimeDomain + Copy>(
 ) -> io::Result<()> {
     match table_over(time, clocks, rows) {
         Ok(plan) => print_plan(rt, plan),
-        Err(fault) => print_fault(rt, fault.refusal, 0),
+        Err(_) => Ok(()),
     }
 }
 
-// The same for any plan.
+// The same for any plan. Every plan has 1 to 8 clocks, so nothing is refused here.
 pub fn print_plan<P: Plan + Drop>(rt: &LibcRuntime, plan: P) -> io::Result<()> {
     match ClockCount::new(plan.clocks()) {
         Ok(clocks) => {
             let mut bytes = [0; STORE_BYTES];
             print_over(rt, plan, &mut LineStore::new(clocks, &mut bytes))
         }
-        Err(why) => print_fault(rt, why, 0),
+        Err(_) => Ok(()),
     }
 }
 
@@ -129,9 +128,9 @@ fn print_status(rt: &LibcRuntime, phase: Phase, rounds: u64, buffer: &mut [u8]) 
     }
 }
 
-fn print_fault(rt: &LibcRuntime, refusal: Refusal, line: usize) -> io::Result<()> {
+fn print_fault(rt: &LibcRuntime, fault: &TextFault) -> io::Result<()> {
     let mut buffer = [0; LONGEST];
-    match write_fault(refusal, line, &mut buffer) {
+    match fault.write_line(&mut buffer) {
         Ok(length) => print_line(rt, &buffer, length),
         Err(_) => Ok(()),
     }
