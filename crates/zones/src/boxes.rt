@@ -38,7 +38,7 @@ fn ordinary(bound: Option<Bound>) -> bool
 }
 
 // Whether every number of the box is from 0 to 1,000,000.
-pub fn plain(sides: &[Side; 8]) -> bool
+pub(crate) fn plain(sides: &[Side; 8]) -> bool
     ensures { λ r. ⌜ (r ≡ true → Plain (now (sides .entry))) × (r ≡ false → Plain (now (sides .entry)) → ⊥) ⌝ }
 {
     for k in 0..8 {
@@ -53,7 +53,7 @@ pub fn plain(sides: &[Side; 8]) -> bool
 }
 
 // A box is cut in sixteen steps, two a clock. The bound of step s: the lower bounds at even steps, turned round, and the upper ones at odd steps.
-pub fn step_bound(sides: &[Side; 8], s: usize) -> Option<Bound>
+pub(crate) fn step_bound(sides: &[Side; 8], s: usize) -> Option<Bound>
     requires { ⌜ Plain (now sides) ⌝ ∗ ⌜ s < 16 ⌝ }
     ensures { λ r. ⌜ bound-of r ≡ box-bound (now (sides .entry)) s ⌝ }
 {
@@ -71,7 +71,7 @@ pub fn step_bound(sides: &[Side; 8], s: usize) -> Option<Bound>
 }
 
 // The row that step s cuts at.
-pub fn row(s: usize) -> usize
+pub(crate) fn row(s: usize) -> usize
     requires { ⌜ s < 16 ⌝ }
     ensures { λ r. ⌜ r ≡ row-of s ⌝ }
 {
@@ -79,7 +79,7 @@ pub fn row(s: usize) -> usize
 }
 
 // The column that step s cuts at.
-pub fn column(s: usize) -> usize
+pub(crate) fn column(s: usize) -> usize
     requires { ⌜ s < 16 ⌝ }
     ensures { λ r. ⌜ r ≡ column-of s ⌝ }
 {

@@ -84,7 +84,7 @@ fn meets(code: Code, scale: u32, a: u32, b: u32) -> bool
 }
 
 // Whether the readings at the scale meet every bound.
-pub fn met(codes: &[Code; 81], scale: u32, readings: &[u32]) -> bool
+pub(crate) fn met(codes: &[Code; 81], scale: u32, readings: &[u32]) -> bool
     requires { ⌜ ((p : ℕ) → p < 81 → Near 4000000 (code-of (now codes) p)) ⌝ ∗ ⌜ scale ≤ 1000 ⌝ }
     ensures { λ r. ⌜ (r ≡ true → Holds (at (now (codes .entry))) scale (reading (now (readings .entry)))) × (Holds (at (now (codes .entry))) scale (reading (now (readings .entry))) → r ≡ true) ⌝ }
 {
