@@ -111,7 +111,7 @@ impl TimeDomain for PlanTime {
 
 // The normal form of a bound, where there may be none.
 pub fn normal_of<T: TimeDomain>(time: &T, bound: Option<Bound>) -> Result<Option<Bound>, Refusal>
-    ensures { NormalOfSays (normal time.now) (bound_of bound) result }
+    ensures { NormalOfSays (T.normal time.now) (bound_of bound) result }
 {
     match bound {
         None => Ok(None),
@@ -125,7 +125,7 @@ pub fn normal_of<T: TimeDomain>(time: &T, bound: Option<Bound>) -> Result<Option
 // Whether two bounds are met by the same differences at every scale that is allowed:
 // they are exactly if their normal forms are the same.
 pub fn agree<T: TimeDomain>(time: &T, a: Option<Bound>, b: Option<Bound>) -> Result<bool, Refusal>
-    ensures { AgreeSays (allows time.now) (bound_of a) (bound_of b) result }
+    ensures { AgreeSays (T.allows time.now) (bound_of a) (bound_of b) result }
 {
     let x = normal_of(time, a)?;
     let y = normal_of(time, b)?;

@@ -1,3 +1,5 @@
+#![tactic(auto)]
+
 pub mod clock_count;
 pub mod entry;
 mod lines;

@@ -1,3 +1,5 @@
+#![tactic(auto)]
+
 ghost use Rattle.std.specs.Prelude.{◌≡◌};
 ghost use Rattle.texts.specs.Faults.{faulty};
 ghost use Rattle.texts.specs.PlanRows.{tables, SameSlices};

@@ -1,3 +1,5 @@
+#![tactic(auto)]
+
 use anyhow::anyhow;
 use bounds::bound::Bound;
 use bounds::refusal::Refusal;

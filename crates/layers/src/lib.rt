@@ -1,3 +1,5 @@
+#![tactic(auto)]
+
 pub mod deadline;
 mod narrowing;
 pub mod refused;

@@ -1,3 +1,5 @@
+#![tactic(auto)]
+
 use zone_report::print_text;
 
 // Reads plan texts from standard input, each ended by a line `---`, and prints what `print_zones` prints of each, and `---` after it.

@@ -1,3 +1,5 @@
+#![tactic(auto)]
+
 pub mod box_check;
 pub mod faults;
 pub mod plan;

@@ -1,3 +1,5 @@
+#![tactic(auto)]
+
 mod shown;
 
 use bounds::bound::Bound;

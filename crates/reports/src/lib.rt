@@ -1,3 +1,5 @@
+#![tactic(auto)]
+
 ghost use Rattle.std.specs.Prelude.{◌≡◌, ◌≤◌, length};
 ghost use Rattle.byte_text.specs.Lines.{WriteSays};
 ghost use Rattle.reports.specs.Reports.{status_line, phase_word, ReportSays};

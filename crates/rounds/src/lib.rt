@@ -1,3 +1,5 @@
+#![tactic(auto)]
+
 ghost use Rattle.rounds.specs.Calls.{ZoneCallsGiven};
 ghost use Rattle.rounds.specs.Causes.{RoundsCaused};
 ghost use Rattle.rounds.specs.Deadlines.{DeadlinesStand};

@@ -1,3 +1,5 @@
+#![tactic(auto)]
+
 mod compare;
 mod matrix;
 mod plain;

@@ -1,3 +1,5 @@
+#![tactic(auto)]
+
 mod calls;
 pub mod starts;
 mod zones_back;

@@ -1,3 +1,5 @@
+#![tactic(auto)]
+
 pub mod line_store;
 pub mod loan;
 pub mod row_store;

@@ -1,3 +1,5 @@
+#![tactic(auto)]
+
 mod boxes;
 pub mod fault;
 mod fault_line;

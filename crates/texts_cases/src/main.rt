@@ -1,3 +1,5 @@
+#![tactic(auto)]
+
 use bounds::bound::Bound;
 use bounds::time::PlanTime;
 use grammar::read_written_plan;

@@ -1,3 +1,5 @@
+#![tactic(auto)]
+
 ghost use Rattle.worked_cases.specs.ZoneCases.{ZoneCases};
 ghost use Rattle.worked_cases.specs.DistanceCases.{DistanceCases};
 

@@ -1,3 +1,5 @@
+#![tactic(auto)]
+
 use bounds::time::TimeDomain;
 use distances::finder::Search;
 use entries::clock_count::ClockCount;

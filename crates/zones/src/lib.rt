@@ -1,3 +1,5 @@
+#![tactic(auto)]
+
 mod back;
 pub mod boxes;
 mod codes;

@@ -28,4 +28,4 @@ pub returns : goal.returns
 returns c =
     let fx : SFits w32 c.args.x.number = search rules in
     let fy : SFits w32 c.args.y.number = search rules in
-    done _ _ _ c.args.x.number c.args.y.number _ c.both-closed.ensures (omega (arith, ints)) (omega (arith, ints)) (omega (arith, ints))
+    done _ _ _ c.args.x.number c.args.y.number _ c.both_closed.ensures (omega (arith, ints)) (omega (arith, ints)) (omega (arith, ints))

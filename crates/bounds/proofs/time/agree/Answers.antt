@@ -5,8 +5,8 @@ use Rattle.bounds.proofs.time.agree.Goals as goal
 pub returns : goal.returns
 returns g c =
     let L = g.T.TimeDomain.lawful c.args.time.now in
-    let x = c.in-ok-x.ensures in
-    let y = c.in-ok-y.ensures in (
+    let x = c.in_ok-x.ensures in
+    let y = c.in_ok-y.ensures in (
       x.1,
       y.1,
       λ e. alike_normal L _ _ (sym x.0 ∙ c.equal.ensures.0 e ∙ y.0),

@@ -17,7 +17,7 @@ pub loop-b-preserved : goal.loop-b-preserved
 loop-b-preserved c =
     let more = value_on c.args.bytes.now c.loop-b.b-index c.loop-b-test.true c.if-b-lt48.false c.if-b-gt57.false in (
       c.loop-b.invariant.0 ∙ digits_on c.args.bytes.now c.loop-b.b-index c.loop-b-test.true c.if-b-lt48.false c.if-b-gt57.false,
-      omega (arith, more, c.loop-b.invariant.1, c.from.ensures, c.saturating-mul.ensures, c.saturating-add.ensures, c.min-number.ensures),
+      omega (arith, more, c.loop-b.invariant.1, c.from.ensures, c.saturating_mul.ensures, c.saturating_add.ensures, c.min-number.ensures),
     )
 
 pub returns : goal.returns

@@ -8,4 +8,4 @@ unfolding code_front
 loop-k-init c = refl
 
 pub loop-k-preserved : goal.loop-k-preserved
-loop-k-preserved c = front_more c.args.codes.now c.loop-k.k c.args.j c.loop-k.best.0 _ c.loop-k.invariant c.tighter-code-best.ensures
+loop-k-preserved c = front_more c.args.codes.now c.loop-k.k c.args.j c.loop-k.best.0 _ c.loop-k.invariant c.tighter_code-best.ensures

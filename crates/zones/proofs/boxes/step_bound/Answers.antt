@@ -22,8 +22,8 @@ pub returns-then-s-eq1 : goal.returns-then-s-eq1
 unfolding box_bound
 returns-then-s-eq1 c = sym (cond-true _ _ _ (eq-eqb _ 1 c.if-s-eq1.true))
 
-pub overflow-sub-result : goal.overflow-sub-result
-overflow-sub-result c =
+pub overflow_sub-result : goal.overflow_sub-result
+overflow_sub-result c =
     let f : SFits w32 c.in-Some.b.number = search rules in
     let o = low _ _ (subst Ordinary (ap bound_of c.in-Some.is) (c.requires.0 (c.args.s / 2) (omega arith)).0) in
     omega (arith, ints, o.0, o.1)

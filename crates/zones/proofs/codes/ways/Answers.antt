@@ -19,7 +19,7 @@ loop-p-preserved c =
       simp length-set c.loop-p.invariant.0,
       below_more _ _
           (λ k h. let ne : k ≢ c.loop-p.p = omega arith in code_other c.loop-p.next c.loop-p.p k _ ne ∙ c.loop-p.invariant.1 k h)
-          (code_same c.loop-p.next c.loop-p.p _ lt ∙ c.tighter-code.ensures ∙ ap (min (code_of c.args.codes.now c.loop-p.p)) c.joined-via.ensures),
+          (code_same c.loop-p.next c.loop-p.p _ lt ∙ c.tighter_code.ensures ∙ ap (min (code_of c.args.codes.now c.loop-p.p)) c.joined-via.ensures),
     )
 
 pub returns : goal.returns

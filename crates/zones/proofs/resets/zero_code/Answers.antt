@@ -20,5 +20,5 @@ joined-via-requires c =
 pub returns : goal.returns
 returns c =
     let i : c.args.p % 9 ≡ 9 * 0 + c.args.p % 9 = omega arith in
-    best_is c.args.codes.now c.args.k 0 33554433 c.args.p _ _ _ c.joined-half.ensures (c.joined-via.ensures ∙ ap (λ n. code_plus c.joined-half.result.0 (code_of c.args.codes.now n)) i) c.tighter-code.ensures
+    best_is c.args.codes.now c.args.k 0 33554433 c.args.p _ _ _ c.joined-half.ensures (c.joined-via.ensures ∙ ap (λ n. code_plus c.joined-half.result.0 (code_of c.args.codes.now n)) i) c.tighter_code.ensures
     ∙ sym (cond-true _ _ _ c.if-not-reset.false)

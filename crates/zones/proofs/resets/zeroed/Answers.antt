@@ -2,8 +2,8 @@ use Rattle.std.proofs.Common.{false, get_or, arith}
 use Rattle.zones.proofs.Zero.{zero_start, zero_more, stuck}
 use Rattle.zones.proofs.resets.zeroed.Goals as goal
 
-pub zero-one-requires : goal.zero-one-requires
-zero-one-requires c = (c.loop-k.invariant.sound, omega arith)
+pub zero_one-requires : goal.zero_one-requires
+zero_one-requires c = (c.loop-k.invariant.sound, omega arith)
 
 pub loop-k-init : goal.loop-k-init
 loop-k-init c = zero_start _ c.args.codes.now c.requires

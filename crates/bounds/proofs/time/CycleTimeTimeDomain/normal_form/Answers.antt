@@ -20,20 +20,20 @@ reach : (s : Bool) (n : ℤ) → (Vast (upto s n) → ⊥) → negsuc 999999999 
 unfolding Vast
 reach s n v = by_lt_z n (negsuc 999999999) (λ h. absurd (v (inl h))) (λ h. h)
 
-pub returns-then-not-in-reach : goal.returns-then-not-in-reach
-returns-then-not-in-reach c = (refl, c.in-reach.ensures.1 c.if-not-in-reach.true)
+pub returns-then-not-in_reach : goal.returns-then-not-in_reach
+returns-then-not-in_reach c = (refl, c.in_reach.ensures.1 c.if-not-in_reach.true)
 
 pub returns-then-bound : goal.returns-then-bound
-returns-then-bound c = (closed _ _ c.if-bound.true, c.in-reach.ensures.0 c.if-not-in-reach.false)
+returns-then-bound c = (closed _ _ c.if-bound.true, c.in_reach.ensures.0 c.if-not-in_reach.false)
 
-pub overflow-sub-result : goal.overflow-sub-result
-overflow-sub-result c =
+pub overflow_sub-result : goal.overflow_sub-result
+overflow_sub-result c =
     let f : SFits w32 c.args.bound.number = search rules in
-    let h = reach c.args.bound.closed c.args.bound.number (c.in-reach.ensures.0 c.if-not-in-reach.false) in
+    let h = reach c.args.bound.closed c.args.bound.number (c.in_reach.ensures.0 c.if-not-in_reach.false) in
     omega (arith, ints)
 
 pub returns : goal.returns
 returns c =
     let f : SFits w32 c.args.bound.number = search rules in
-    let h = reach c.args.bound.closed c.args.bound.number (c.in-reach.ensures.0 c.if-not-in-reach.false) in
-    (open_one _ _ _ c.if-bound.false (omega (arith, ints)), c.in-reach.ensures.0 c.if-not-in-reach.false)
+    let h = reach c.args.bound.closed c.args.bound.number (c.in_reach.ensures.0 c.if-not-in_reach.false) in
+    (open_one _ _ _ c.if-bound.false (omega (arith, ints)), c.in_reach.ensures.0 c.if-not-in_reach.false)

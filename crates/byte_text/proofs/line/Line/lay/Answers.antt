@@ -7,8 +7,8 @@ bounds-self-self c =
     let e : length c.args.self.now.bytes ≡ 1200 = search rules in
     omega (arith, length-take c.args.self.now.used c.args.self.now.bytes, c.requires)
 
-pub overflow-add-self : goal.overflow-add-self
-overflow-add-self c =
+pub overflow_add-self : goal.overflow_add-self
+overflow_add-self c =
     let e : length c.args.self.now.bytes ≡ 1200 = search rules in
     let h : c.args.self.now.used < 1200 = omega (arith, length-take c.args.self.now.used c.args.self.now.bytes, c.requires) in
     search rules

@@ -9,11 +9,11 @@ loop-p-preserved c =
       simp length-set c.loop-p.invariant.0,
       below_more _ _
           (λ k h. let ne : k ≢ c.loop-p.p = omega arith in code_other c.loop-p.codes c.loop-p.p k _ ne ∙ c.loop-p.invariant.1 k h)
-          (code_same c.loop-p.codes c.loop-p.p _ lt ∙ c.open-code.ensures),
+          (code_same c.loop-p.codes c.loop-p.p _ lt ∙ c.open_code.ensures),
     )
 
-pub invariant-of-result : goal.invariant-of-result
-invariant-of-result c = (∣ all_sound _ (λ p h. c.loop-p.invariant.1 p (omega arith)) ∣₁, tt)
+pub invariant_of-result : goal.invariant_of-result
+invariant_of-result c = (∣ all_sound _ (λ p h. c.loop-p.invariant.1 p (omega arith)) ∣₁, tt)
 
 pub returns : goal.returns
 returns c = record {

@@ -3,11 +3,11 @@ use Rattle.zones.proofs.Props.{sound}
 use Rattle.zones.proofs.Outcomes.{back_is, back_sound, back_kept, back_exact}
 use Rattle.zones.proofs.zone.Zone.back.Goals as goal
 
-pub of-domain-requires : goal.of-domain-requires
-of-domain-requires g c = sound _ c.args.self.now.ok
+pub of_domain-requires : goal.of_domain-requires
+of_domain-requires g c = sound _ c.args.self.now.ok
 
-pub invariant-of-self : goal.invariant-of-self
-invariant-of-self g c =
+pub invariant_of-self : goal.invariant_of-self
+invariant_of-self g c =
     let xs = c.args.self.now.codes in
     (∣ back_sound xs c.backed-next.result (sound xs c.args.self.now.ok) c.backed-next.ensures ∣₁, tt)
 
@@ -20,7 +20,7 @@ returns g c =
     let s = sound xs c.args.self.now.ok in
     let ys = c.backed-next.result in
     let is = c.backed-next.ensures in
-    let keeps = c.of_domain.ensures.0 c.if-not-of-domain.false in
+    let keeps = c.of_domain.ensures.0 c.if-not-of_domain.false in
     record {
       was_of_domain = keeps;
       of_domain = back_kept xs ys s is laws keeps;

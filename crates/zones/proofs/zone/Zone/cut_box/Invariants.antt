@@ -3,4 +3,4 @@ use Rattle.zones.specs.Boxes.{Boxed}
 use Rattle.zones.proofs.zone.Zone.cut_box.Given as goal
 
 abbrev pub invariant-loop-s : goal.invariant-loop-s
-invariant-loop-s g l = Boxed (scales (g.T.TimeDomain.allows l.time)) (g.T.TimeDomain.normal l.time) l.clock-box.sides l.self.codes l.next.codes l.s
+invariant-loop-s g l = Boxed (scales (g.T.TimeDomain.allows l.time)) (g.T.TimeDomain.normal l.time) l.clock_box.sides l.self.codes l.next.codes l.s

@@ -6,8 +6,8 @@ use Rattle.zones.proofs.CutFacts.{not_beyond, not_vast, under, upper, close}
 use Rattle.zones.proofs.zone.Zone.cut_by.Goals as goal
 use Rattle.zones.proofs.zone.Zone.cut_by.Goals.{then-bound-ltminus1000000-via-then-bound-ltminus1000000, then-bound-ltminus1000000-via-else-bound-ltminus1000000+then-bound-gt1000000}
 
-pub of-domain-requires : goal.of-domain-requires
-of-domain-requires g c = sound _ c.args.self.now.ok
+pub of_domain-requires : goal.of_domain-requires
+of_domain-requires g c = sound _ c.args.self.now.ok
 
 pub coded-requires : goal.coded-requires
 coded-requires g c =
@@ -29,7 +29,7 @@ tighten-requires g c =
         row = omega (arith, c.if-i-gt8.false);
         column = omega (arith, c.if-j-gt8.false);
         number = not_beyond _ _ low high;
-        of_domain = c.of_domain.ensures.0 c.if-not-of-domain.false;
+        of_domain = c.of_domain.ensures.0 c.if-not-of_domain.false;
       };
       code = record { is = c.coded.ensures.bound ∙ c.in-Ok.ensures.0; near = c.coded.ensures.near };
     }

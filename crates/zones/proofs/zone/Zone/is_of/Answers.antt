@@ -7,8 +7,8 @@ use Rattle.zones.proofs.Props.{sound}
 use Rattle.zones.proofs.Whole.{a_reading}
 use Rattle.zones.proofs.zone.Zone.is_of.Goals as goal
 
-pub of-domain-requires : goal.of-domain-requires
-of-domain-requires g c = sound _ c.args.self.now.ok
+pub of_domain-requires : goal.of_domain-requires
+of_domain-requires g c = sound _ c.args.self.now.ok
 
 pub returns : goal.returns
 returns g c =

@@ -21,14 +21,14 @@ loop-p-preserved c =
           (subst (Near 4000000) (sym here) c.in-Some.ensures.0, ap decode here ∙ c.in-Some.ensures.1),
     )
 
-pub all-direct-requires : goal.all-direct-requires
-all-direct-requires c = λ q h. (c.loop-p.invariant.1 q (omega arith)).0
+pub all_direct-requires : goal.all_direct-requires
+all_direct-requires c = λ q h. (c.loop-p.invariant.1 q (omega arith)).0
 
-pub returns-then-not-all-direct : goal.returns-then-not-all-direct
-returns-then-not-all-direct c = (refl, none_other c.args.bounds.now c.loop-p.codes (λ p h. (c.loop-p.invariant.1 p (omega arith)).1) (c.all-direct.ensures.1 c.if-not-all-direct.true))
+pub returns-then-not-all_direct : goal.returns-then-not-all_direct
+returns-then-not-all_direct c = (refl, none_other c.args.bounds.now c.loop-p.codes (λ p h. (c.loop-p.invariant.1 p (omega arith)).1) (c.all_direct.ensures.1 c.if-not-all_direct.true))
 
-pub invariant-of-result : goal.invariant-of-result
-invariant-of-result c = (∣ record { near = λ p h. (c.loop-p.invariant.1 p (omega arith)).0; canon = c.all-direct.ensures.0 c.if-not-all-direct.false } ∣₁, tt)
+pub invariant_of-result : goal.invariant_of-result
+invariant_of-result c = (∣ record { near = λ p h. (c.loop-p.invariant.1 p (omega arith)).0; canon = c.all_direct.ensures.0 c.if-not-all_direct.false } ∣₁, tt)
 
 pub returns : goal.returns
 returns c = λ p h. (c.loop-p.invariant.1 p (omega arith)).1

@@ -26,8 +26,8 @@ returns-then-joined g c =
     cut_empties (scale_laws (t.allows k) (t.normal k) (t.lawful k)) xs (sound xs c.args.self.now.ok) c.args.i c.args.j _ c.requires.fit c.args.code.0 c.requires.code
     (subst (λ n. n < 33554433) c.joined.ensures c.if-joined.true)
 
-pub invariant-of-self : goal.invariant-of-self
-invariant-of-self g c =
+pub invariant_of-self : goal.invariant_of-self
+invariant_of-self g c =
     let t = g.T.TimeDomain in
     let k = c.args.time.now in
     let xs = c.args.self.now.codes in (

@@ -7,14 +7,14 @@ use Rattle.zones.proofs.Lists.{reset_0}
 use Rattle.zones.proofs.Outcomes.{held_same, undo_same, undo_is, undo_sound, undo_kept, undo_exact}
 use Rattle.zones.proofs.zone.Zone.undo.Goals as goal
 
-pub of-domain-requires : goal.of-domain-requires
-of-domain-requires g c = sound _ c.args.self.now.ok
+pub of_domain-requires : goal.of_domain-requires
+of_domain-requires g c = sound _ c.args.self.now.ok
 
 pub zeroed-requires : goal.zeroed-requires
 zeroed-requires g c = sound _ c.args.self.now.ok
 
-pub invariant-of-self : goal.invariant-of-self
-invariant-of-self g c =
+pub invariant_of-self : goal.invariant_of-self
+invariant_of-self g c =
     let xs = c.args.self.now.codes in
     let n = c.in-Some.ensures in
     let r0 : get_or c.in-Some.on 0 false ≡ false = n.1 0 (omega arith) ∙ reset_0 c.args.clocks.now in
@@ -30,7 +30,7 @@ returns-in-None-zeroed g c =
     let n = c.in-Some.ensures in
     let q : ℕ → Bool = reset c.args.clocks.now in
     let r : ℕ → Bool = λ i. get_or c.in-Some.on i false in
-    let keeps = c.of_domain.ensures.0 c.if-not-of-domain.false in
+    let keeps = c.of_domain.ensures.0 c.if-not-of_domain.false in
     record {
       known = n.0;
       was_of_domain = keeps;
@@ -53,7 +53,7 @@ returns-in-Some-zeroed g c =
     let z = c.in-Some-zeroed.ensures in
     let ys = c.freed-next.result in
     let is = c.freed-next.ensures in
-    let keeps = c.of_domain.ensures.0 c.if-not-of-domain.false in
+    let keeps = c.of_domain.ensures.0 c.if-not-of_domain.false in
     record {
       known = n.0;
       was_of_domain = keeps;

@@ -5,11 +5,11 @@ use Rattle.zones.proofs.Props.{sound}
 use Rattle.zones.proofs.Outcomes.{within_yes, within_no}
 use Rattle.zones.proofs.zone.Zone.within.Goals as goal
 
-pub of-domain-requires : goal.of-domain-requires
-of-domain-requires g c = sound _ c.args.self.now.ok
+pub of_domain-requires : goal.of_domain-requires
+of_domain-requires g c = sound _ c.args.self.now.ok
 
-pub of-domain-requires-2 : goal.of-domain-requires-2
-of-domain-requires-2 g c = sound _ c.args.other.now.ok
+pub of_domain-requires-2 : goal.of_domain-requires-2
+of_domain-requires-2 g c = sound _ c.args.other.now.ok
 
 pub returns : goal.returns
 returns g c =
@@ -20,12 +20,12 @@ returns g c =
     let s = sound xs c.args.self.now.ok in
     let ys = c.args.other.now.codes in
     let near = (sound ys c.args.other.now.ok).near in
-    let keeps = c.of_domain.ensures.0 c.if-not-of-domain.false in
-    let keeps2 = c.of-domain-2.ensures.0 c.if-not-of-domain-2.false in (
+    let keeps = c.of_domain.ensures.0 c.if-not-of_domain.false in
+    let keeps2 = c.of_domain-2.ensures.0 c.if-not-of_domain-2.false in (
       keeps,
       keeps2,
       (
-        λ e. within_yes laws xs ys s near keeps (c.no-looser.ensures.0 e),
-        λ f. ⊎_elim {C = c.no-looser.result ≡ true} (λ e. e) (λ e. let p = c.no-looser.ensures.1 e in absurd (within_no laws xs ys s near keeps p.0 p.1 p.2 f)) (cases_Bool c.no-looser.result),
+        λ e. within_yes laws xs ys s near keeps (c.no_looser.ensures.0 e),
+        λ f. ⊎_elim {C = c.no_looser.result ≡ true} (λ e. e) (λ e. let p = c.no_looser.ensures.1 e in absurd (within_no laws xs ys s near keeps p.0 p.1 p.2 f)) (cases_Bool c.no_looser.result),
       ),
     )
