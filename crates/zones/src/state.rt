@@ -18,7 +18,7 @@ pub struct State<'a> {
 impl State<'_> {
     // Refuses, by State, more than 8 readings, a scale that is not 1 to 1000 or not allowed, and a reading above 1,000,000,000.
     pub fn check<T: TimeDomain>(&self, time: &T) -> Result<(), Refusal>
-        ensures { StateSays (allows time.now) self.now.scale self.now.readings.now result }
+        ensures { StateSays (T.allows time.now) self.now.scale self.now.readings.now result }
     {
         if self.readings.len() > 8 {
             return Err(Refusal::State);

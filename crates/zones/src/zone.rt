@@ -70,7 +70,7 @@ impl Zone {
         j: usize,
         bound: Option<Bound>,
     ) -> Result<Cut, Refusal>
-        ensures { CutSays (scales (allows time.now)) (normal time.now) i j (bound_of bound) self.old.codes self.new.codes result }
+        ensures { CutSays (scales (T.allows time.now)) (T.normal time.now) i j (bound_of bound) self.old.codes self.new.codes result }
     {
         match bound {
             Some(b) => self.cut_by(time, i, j, b),
@@ -80,7 +80,7 @@ impl Zone {
 
     // The cut by no bound, which changes nothing.
     fn cut_by_none<T: TimeDomain>(&mut self, time: &T, i: usize, j: usize) -> Result<Cut, Refusal>
-        ensures { CutSays (scales (allows time.now)) (normal time.now) i j none self.old.codes self.new.codes result }
+        ensures { CutSays (scales (T.allows time.now)) (T.normal time.now) i j none self.old.codes self.new.codes result }
     {
         if i > 8 || j > 8 {
             return Err(Refusal::Name);
@@ -99,7 +99,7 @@ impl Zone {
         j: usize,
         bound: Bound,
     ) -> Result<Cut, Refusal>
-        ensures { CutSays (scales (allows time.now)) (normal time.now) i j (upto bound.closed bound.number) self.old.codes self.new.codes result }
+        ensures { CutSays (scales (T.allows time.now)) (T.normal time.now) i j (upto bound.closed bound.number) self.old.codes self.new.codes result }
     {
         if i > 8 || j > 8 {
             return Err(Refusal::Name);
@@ -125,9 +125,9 @@ impl Zone {
         bound: Bound,
         code: Code,
     ) -> Result<Cut, Refusal>
-        requires fit { Fit (normal time.now) i j (upto bound.closed bound.number) self.old.codes }
-        requires code { CodeOf (normal time.now (upto bound.closed bound.number)) code.0 }
-        ensures { CutSays (scales (allows time.now)) (normal time.now) i j (upto bound.closed bound.number) self.old.codes self.new.codes result }
+        requires fit { Fit (T.normal time.now) i j (upto bound.closed bound.number) self.old.codes }
+        requires code { CodeOf (T.normal time.now (upto bound.closed bound.number)) code.0 }
+        ensures { CutSays (scales (T.allows time.now)) (T.normal time.now) i j (upto bound.closed bound.number) self.old.codes self.new.codes result }
     {
         if joined(self.codes[9 * j + i], code).0 < LEVEL.0 {
             return Ok(Cut::Empty);
@@ -143,7 +143,7 @@ impl Zone {
 
     // Keeps the states in the box: clock by clock, the lower bound first, until nothing is left or a number is out of range.
     pub fn cut_box<T: TimeDomain>(&mut self, time: &T, clock_box: &ClockBox) -> Result<Cut, Refusal>
-        ensures { BoxSays (scales (allows time.now)) (normal time.now) clock_box.now.sides self.old.codes self.new.codes result }
+        ensures { BoxSays (scales (T.allows time.now)) (T.normal time.now) clock_box.now.sides self.old.codes self.new.codes result }
     {
         if !plain(&clock_box.sides) {
             return Err(Refusal::Number);
@@ -167,7 +167,7 @@ impl Zone {
 
     // Goes back in time: to the states from which some wait of 0 or more leads into the zone.
     pub fn back<T: TimeDomain>(&mut self, time: &T) -> Result<(), Refusal>
-        ensures { BackSays (scales (allows time.now)) (normal time.now) self.old.codes self.new.codes result }
+        ensures { BackSays (scales (T.allows time.now)) (T.normal time.now) self.old.codes self.new.codes result }
     {
         if !of_domain(&self.codes, time) {
             return Err(Refusal::Number);
@@ -179,7 +179,7 @@ impl Zone {
 
     // Goes back over a reset: to the states that lie in the zone once the clocks are set to 0.
     pub fn undo<T: TimeDomain>(&mut self, time: &T, clocks: &[usize]) -> Result<Cut, Refusal>
-        ensures { UndoSays (scales (allows time.now)) (normal time.now) clocks.now self.old.codes self.new.codes result }
+        ensures { UndoSays (scales (T.allows time.now)) (T.normal time.now) clocks.now self.old.codes self.new.codes result }
     {
         match named(clocks) {
             None => Err(Refusal::Name),
@@ -201,7 +201,7 @@ impl Zone {
 
     // Whether the zone holds the state.
     pub fn holds<T: TimeDomain>(&self, time: &T, state: &State) -> Result<bool, Refusal>
-        ensures { HoldsSays (allows time.now) (normal time.now) state.now.scale state.now.readings.now self.now.codes result }
+        ensures { HoldsSays (T.allows time.now) (T.normal time.now) state.now.scale state.now.readings.now self.now.codes result }
     {
         if !of_domain(&self.codes, time) {
             return Err(Refusal::Number);
@@ -213,8 +213,8 @@ impl Zone {
     // Whether the zone is of the time domain: every bound of it is in normal form.
     // One that is holds a state at a scale that the domain allows, and every zone holds one at some scale.
     pub fn is_of<T: TimeDomain>(&self, time: &T) -> bool
-        ensures is { Iff (result ≡ true) (OfDomain (normal time.now) self.now.codes) }
-        ensures state { result ≡ true → HasState (scales (allows time.now)) self.now.codes }
+        ensures is { Iff (result ≡ true) (OfDomain (T.normal time.now) self.now.codes) }
+        ensures state { result ≡ true → HasState (scales (T.allows time.now)) self.now.codes }
         ensures some { HasState (scales hand_allows) self.now.codes }
     {
         of_domain(&self.codes, time)
@@ -222,7 +222,7 @@ impl Zone {
 
     // Whether every state of this zone lies in the other.
     pub fn within<T: TimeDomain>(&self, other: &Zone, time: &T) -> Result<bool, Refusal>
-        ensures { WithinSays (scales (allows time.now)) (normal time.now) self.now.codes other.now.codes result }
+        ensures { WithinSays (scales (T.allows time.now)) (T.normal time.now) self.now.codes other.now.codes result }
     {
         if !of_domain(&self.codes, time) {
             return Err(Refusal::Number);
@@ -244,7 +244,7 @@ fn open_code(p: usize) -> Code
 // Whether the bound of the code is in normal form.
 fn normal_code<T: TimeDomain>(code: Code, time: &T) -> bool
     requires { Near 4000000 code.0 }
-    ensures { (result ≡ true → normal time.now (decode code.0) ≡ decode code.0) × (normal time.now (decode code.0) ≡ decode code.0 → result ≡ true) }
+    ensures { (result ≡ true → T.normal time.now (decode code.0) ≡ decode code.0) × (T.normal time.now (decode code.0) ≡ decode code.0 → result ≡ true) }
 {
     if code.0 == u32::MAX {
         return true;
@@ -264,7 +264,7 @@ fn normal_code<T: TimeDomain>(code: Code, time: &T) -> bool
 // Whether every bound is in normal form.
 fn of_domain<T: TimeDomain>(codes: &[Code; 81], time: &T) -> bool
     requires { Sound codes.now }
-    ensures { (result ≡ true → OfDomain (normal time.now) codes.now) × (OfDomain (normal time.now) codes.now → result ≡ true) }
+    ensures { (result ≡ true → OfDomain (T.normal time.now) codes.now) × (OfDomain (T.normal time.now) codes.now → result ≡ true) }
 {
     // No early return: the loop then runs several codes at a time.
     let mut every = true;

@@ -18,4 +18,4 @@ box_of n b e h f = record {
 pub returns : goal.returns
 returns c =
     let e : length c.args.b.now.sides ≡ 8 = search rules in
-    box_of c.args.clocks c.args.b.now e (c.if-not-numbers-fit.ensures.0 refl) (c.if-not-clocks-fit.ensures.0 refl)
+    box_of c.args.clocks c.args.b.now e (c.if-not-numbers_fit.ensures.0 refl) (c.if-not-clocks_fit.ensures.0 refl)

@@ -12,5 +12,5 @@ returns c = record {
   cause = c.if-not-named.ensures.0 refl;
   chance = c.if-o-gt1000.false;
   target = c.if-not-named-2.ensures.0 refl;
-  resets = no_resets c.args.clocks c.args.o.now.resets (c.if-not-resets-fit.ensures.0 refl);
+  resets = no_resets c.args.clocks c.args.o.now.resets (c.if-not-resets_fit.ensures.0 refl);
 }

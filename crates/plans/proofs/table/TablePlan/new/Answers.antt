@@ -1,4 +1,4 @@
 use Rattle.plans.proofs.table.TablePlan.new.Goals as goal
 
-pub invariant-of-result : goal.invariant-of-result
-invariant-of-result g c = (∣ c.in-Ok.ensures ∣₁, tt)
+pub invariant_of-result : goal.invariant_of-result
+invariant_of-result g c = record { fits = ∣ c.in-Ok.ensures ∣₁ }

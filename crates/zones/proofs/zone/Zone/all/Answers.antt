@@ -13,7 +13,7 @@ loop-p-preserved c =
     )
 
 pub invariant_of-result : goal.invariant_of-result
-invariant_of-result c = (∣ all_sound _ (λ p h. c.loop-p.invariant.1 p (omega arith)) ∣₁, tt)
+invariant_of-result c = record { ok = ∣ all_sound _ (λ p h. c.loop-p.invariant.1 p (omega arith)) ∣₁ }
 
 pub returns : goal.returns
 returns c = record {

@@ -9,7 +9,7 @@ of_domain-requires g c = sound _ c.args.self.now.ok
 pub invariant_of-self : goal.invariant_of-self
 invariant_of-self g c =
     let xs = c.args.self.now.codes in
-    (∣ back_sound xs c.backed-next.result (sound xs c.args.self.now.ok) c.backed-next.ensures ∣₁, tt)
+    record { ok = ∣ back_sound xs c.backed-next.result (sound xs c.args.self.now.ok) c.backed-next.ensures ∣₁ }
 
 pub returns : goal.returns
 returns g c =

@@ -28,7 +28,7 @@ pub returns-then-not-all_direct : goal.returns-then-not-all_direct
 returns-then-not-all_direct c = (refl, none_other c.args.bounds.now c.loop-p.codes (λ p h. (c.loop-p.invariant.1 p (omega arith)).1) (c.all_direct.ensures.1 c.if-not-all_direct.true))
 
 pub invariant_of-result : goal.invariant_of-result
-invariant_of-result c = (∣ record { near = λ p h. (c.loop-p.invariant.1 p (omega arith)).0; canon = c.all_direct.ensures.0 c.if-not-all_direct.false } ∣₁, tt)
+invariant_of-result c = record { ok = ∣ record { near = λ p h. (c.loop-p.invariant.1 p (omega arith)).0; canon = c.all_direct.ensures.0 c.if-not-all_direct.false } ∣₁ }
 
 pub returns : goal.returns
 returns c = λ p h. (c.loop-p.invariant.1 p (omega arith)).1

@@ -30,11 +30,10 @@ pub invariant_of-self : goal.invariant_of-self
 invariant_of-self g c =
     let t = g.T.TimeDomain in
     let k = c.args.time.now in
-    let xs = c.args.self.now.codes in (
-      ∣ cut_sound (scale_laws (t.allows k) (t.normal k) (t.lawful k)) xs (sound xs c.args.self.now.ok) c.args.i c.args.j _ c.requires.fit c.args.code.0 c.requires.code
-          (subst (λ n. 33554433 ≤ n) c.joined.ensures c.if-joined.false) c.in-Some.next c.in-Some.ensures ∣₁,
-      tt,
-    )
+    let xs = c.args.self.now.codes in record {
+      ok = ∣ cut_sound (scale_laws (t.allows k) (t.normal k) (t.lawful k)) xs (sound xs c.args.self.now.ok) c.args.i c.args.j _ c.requires.fit c.args.code.0 c.requires.code
+          (subst (λ n. 33554433 ≤ n) c.joined.ensures c.if-joined.false) c.in-Some.next c.in-Some.ensures ∣₁;
+    }
 
 pub returns-in-Some : goal.returns-in-Some
 returns-in-Some g c =

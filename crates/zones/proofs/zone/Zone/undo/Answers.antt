@@ -18,7 +18,7 @@ invariant_of-self g c =
     let xs = c.args.self.now.codes in
     let n = c.in-Some.ensures in
     let r0 : get_or c.in-Some.on 0 false ≡ false = n.1 0 (omega arith) ∙ reset_0 c.args.clocks.now in
-    (∣ undo_sound (λ i. get_or c.in-Some.on i false) r0 xs c.in-Some-zeroed.zero c.freed-next.result c.in-Some-zeroed.ensures c.freed-next.ensures ∣₁, tt)
+    record { ok = ∣ undo_sound (λ i. get_or c.in-Some.on i false) r0 xs c.in-Some-zeroed.zero c.freed-next.result c.in-Some-zeroed.ensures c.freed-next.ensures ∣₁ }
 
 pub returns-in-None-zeroed : goal.returns-in-None-zeroed
 returns-in-None-zeroed g c =
