@@ -6,20 +6,20 @@ use Rattle.entries.proofs.ReadSteps.{item_place, bounds_step, bounds_end, ahead_
 use Rattle.entries.proofs.reading.read_bounds.Goals as goal
 
 pub bounds-bounds-place : goal.bounds-bounds-place
-bounds-bounds-place c = item_place c.in-Some.item.bytes.now c.in-Some-read-item.place c.in-Some-read-item.bound c.in-Some-read-item.ensures
+bounds-bounds-place c = item_place c.in-Some.item.bytes.now c.in-Some-read_item.place c.in-Some-read_item.bound c.in-Some-read_item.ensures
 
-pub offset-bounds-bounds-place : goal.offset-bounds-bounds-place
-offset-bounds-bounds-place c =
-    let h : c.in-Some-read-item.place < 81 = item_place c.in-Some.item.bytes.now c.in-Some-read-item.place c.in-Some-read-item.bound c.in-Some-read-item.ensures in
+pub offset_bounds-bounds-place : goal.offset_bounds-bounds-place
+offset_bounds-bounds-place c =
+    let h : c.in-Some-read_item.place < 81 = item_place c.in-Some.item.bytes.now c.in-Some-read_item.place c.in-Some-read_item.bound c.in-Some-read_item.ensures in
     search rules
 
-pub loop-item-preserved-in-Some-read-item : goal.loop-item-preserved-in-Some-read-item
-loop-item-preserved-in-Some-read-item c =
+pub loop-item-preserved-in-Some-read_item : goal.loop-item-preserved-in-Some-read_item
+loop-item-preserved-in-Some-read_item c =
     let ps = ahead c.loop-item.items in
     let bs = c.loop-item.bounds in (
       simp length-set c.loop-item.invariant.0,
-      ap (λ (l : List Place). bounds_from l (set bs c.in-Some-read-item.place (Some c.in-Some-read-item.bound))) c.next.ensures.rest
-          ∙ ap (λ (o : Option (ℕ × Bound)). bounds_from (tail_places ps) (noted bs o)) c.in-Some-read-item.ensures
+      ap (λ (l : List Place). bounds_from l (set bs c.in-Some-read_item.place (Some c.in-Some-read_item.bound))) c.next.ensures.rest
+          ∙ ap (λ (o : Option (ℕ × Bound)). bounds_from (tail_places ps) (noted bs o)) c.in-Some-read_item.ensures
           ∙ sym (bounds_step ps bs c.next.result c.in-Some.item c.in-Some.is c.next.ensures.first)
           ∙ c.loop-item.invariant.1,
     )
@@ -30,10 +30,10 @@ loop-item-preserved c =
     let bs = c.loop-item.bounds in (
       c.loop-item.invariant.0,
       ap (λ (l : List Place). bounds_from l bs) c.next.ensures.rest
-          ∙ ap (λ (o : Option (ℕ × Bound)). bounds_from (tail_places ps) (noted bs o)) c.in-default-read-item.ensures
+          ∙ ap (λ (o : Option (ℕ × Bound)). bounds_from (tail_places ps) (noted bs o)) c.in_default-read_item.ensures
           ∙ sym (bounds_step ps bs c.next.result c.in-Some.item c.in-Some.is c.next.ensures.first)
           ∙ c.loop-item.invariant.1,
     )
 
 pub returns : goal.returns
-returns c = sym (bounds_end (ahead c.loop-item.items) c.loop-item.bounds c.next.result c.in-default.is c.next.ensures.first) ∙ c.loop-item.invariant.1
+returns c = sym (bounds_end (ahead c.loop-item.items) c.loop-item.bounds c.next.result c.in_default.is c.next.ensures.first) ∙ c.loop-item.invariant.1

@@ -13,4 +13,4 @@ pub returns-then-p : goal.returns-then-p
 returns-then-p c = seen_same c.args.count (at c.args.zone.now.codes) c.args.p c.if-p.true
 
 pub returns : goal.returns
-returns c = c.bound-at.ensures ∙ seen_shown c.args.count (at c.args.zone.now.codes) c.args.p c.if-p-count.false c.if-p-count-2.false c.if-p.false
+returns c = c.bound_at.ensures ∙ seen_shown c.args.count (at c.args.zone.now.codes) c.args.p c.if-p-count.false c.if-p-count-2.false c.if-p.false

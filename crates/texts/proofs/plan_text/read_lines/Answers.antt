@@ -11,34 +11,34 @@ use Rattle.texts.proofs.StateFacts.{step_sound}
 use Rattle.texts.proofs.Runs.{go_on, stop_here, run_torn, run_over, same_on, rest_shorter, all_ahead}
 use Rattle.texts.proofs.plan_text.read_lines.Goals as goal
 
-pub returns-in-err-progress : goal.returns-in-err-progress
-returns-in-err-progress c =
-    let p = err_from_is_err_and c.from-residual.result c.from-residual.ensures.1 in
+pub returns-in_err-progress : goal.returns-in_err-progress
+returns-in_err-progress c =
+    let p = err_from_is_err_and c.from_residual.result c.from_residual.ensures.1 in
     let s = state c.lines.progress (tables c.lines.rows) in
     let l : c.line-number.result ≡ c.lines.reader.line + 1 = c.line-number.ensures ∙ c.in-Whole.ensures.count in
-    let stay : tables c.read-line.new.rows ≡ tables c.lines.rows = c.in-err-progress.ensures.kept in
-    let end = stop_here (lines_ahead c.lines.reader) (place c.in-Whole.whole) s (fault c.in-err-progress.field-0.0) c.lines.reader.line c.line-number.result _ c.in-Whole.ensures.answer l c.in-err-progress.ensures.answer c.lines.invariant.1 in
-    let r : faulty c.from-residual.result ≡ Err (fault c.in-err-progress.field-0.0) = ap faulty p.1 ∙ ap (λ f. Err (fault f)) p.2 in
-    record { answer = (λ i. record { answer = r i; rows = stay i }) ∙ end; same = same_on _ _ _ c.in-err-progress.ensures.same c.lines.invariant.3 }
+    let stay : tables c.read_line.new.rows ≡ tables c.lines.rows = c.in_err-progress.ensures.kept in
+    let end = stop_here (lines_ahead c.lines.reader) (place c.in-Whole.whole) s (fault c.in_err-progress.field-0.0) c.lines.reader.line c.line-number.result _ c.in-Whole.ensures.answer l c.in_err-progress.ensures.answer c.lines.invariant.1 in
+    let r : faulty c.from_residual.result ≡ Err (fault c.in_err-progress.field-0.0) = ap faulty p.1 ∙ ap (λ f. Err (fault f)) p.2 in
+    record { answer = (λ i. record { answer = r i; rows = stay i }) ∙ end; same = same_on _ _ _ c.in_err-progress.ensures.same c.lines.invariant.3 }
 
 pub lines-preserved : goal.lines-preserved
 lines-preserved c =
     let s = state c.lines.progress (tables c.lines.rows) in
-    let t = state c.in-ok-progress.progress (tables c.read-line.new.rows) in
+    let t = state c.in_ok-progress-in-Whole.progress (tables c.read_line.new.rows) in
     let l : c.line-number.result ≡ c.lines.reader.line + 1 = c.line-number.ensures ∙ c.in-Whole.ensures.count in
-    let step : Ok t ≡ stepped s c.line-number.result (place c.in-Whole.whole) = c.in-ok-progress.ensures.answer in
+    let step : Ok t ≡ stepped s c.line-number.result (place c.in-Whole.whole) = c.in_ok-progress-in-Whole.ensures.answer in
     let on = go_on (lines_ahead c.lines.reader) (place c.in-Whole.whole) s t c.lines.reader.line c.line-number.result _ c.in-Whole.ensures.answer l step c.lines.invariant.1 in (
       ap (λ x. x.now) c.in-Whole.ensures.text ∙ c.lines.invariant.0,
-      (ap (λ x. run x t c.next-line.new.self.line) c.in-Whole.ensures.rest ∙ ap (run (rest_of (lines_ahead c.lines.reader)) t) (sym c.line-number.ensures)) ∙ on,
+      (ap (λ x. run x t c.next_line.new.self.line) c.in-Whole.ensures.rest ∙ ap (run (rest_of (lines_ahead c.lines.reader)) t) (sym c.line-number.ensures)) ∙ on,
       step_sound s t c.line-number.result (place c.in-Whole.whole) c.lines.invariant.2 step,
-      same_on _ _ _ c.in-ok-progress.ensures.same c.lines.invariant.3,
+      same_on _ _ _ c.in_ok-progress-in-Whole.ensures.same c.lines.invariant.3,
     )
 
 pub returns-in-Torn : goal.returns-in-Torn
 returns-in-Torn c =
     let s = state c.lines.progress (tables c.lines.rows) in
     let l : c.line-number-in-Torn.result ≡ c.lines.reader.line = c.line-number-in-Torn.ensures ∙ c.in-Torn.ensures.count in
-    let here : faulty c.torn-line.result ≡ torn_line s (c.lines.reader.line + 1) (place c.in-Torn.whole) = c.torn-line.ensures ∙ ap (λ n. torn_line s (n + 1) (place c.in-Torn.whole)) l in
+    let here : faulty c.torn_line.result ≡ torn_line s (c.lines.reader.line + 1) (place c.in-Torn.whole) = c.torn_line.ensures ∙ ap (λ n. torn_line s (n + 1) (place c.in-Torn.whole)) l in
     record {
       answer = ap (λ x. stopped x s) here ∙ (sym (run_torn (lines_ahead c.lines.reader) (place c.in-Torn.whole) s c.lines.reader.line c.in-Torn.ensures.answer) ∙ c.lines.invariant.1);
       same = c.lines.invariant.3;
@@ -67,4 +67,4 @@ lines-init c =
     )
 
 pub lines-smaller : goal.lines-smaller
-lines-smaller c = rest_shorter (lines_ahead c.lines.reader) (lines_ahead c.next-line.new.self) (place c.in-Whole.whole) c.in-Whole.ensures.answer c.in-Whole.ensures.rest
+lines-smaller c = rest_shorter (lines_ahead c.lines.reader) (lines_ahead c.next_line.new.self) (place c.in-Whole.whole) c.in-Whole.ensures.answer c.in-Whole.ensures.rest

@@ -12,8 +12,8 @@ returns c =
     let n = c.get.result in
     let xs = e.zone.codes in
     let s = sound xs e.zone.ok in
-    let bs = c.zone-bounds-bounds.result in
-    let is = c.zone-bounds-bounds.ensures in
+    let bs = c.zone_bounds-bounds.result in
+    let is = c.zone_bounds-bounds.ensures in
     let long : length xs ≡ 81 = search rules in
     let fits : e.round < 2 ^ 64 = search rules in (
       λ t. record { low = omega arith; high = omega arith; fits = fits; places = long; asks = subst (λ (k : ℕ). AsksNothing k xs) c.get.ensures (free_asks n xs s (listed_free n bs (at xs) is (c.free.ensures.0 t))) },

@@ -12,28 +12,28 @@ pub returns-in-None : goal.returns-in-None
 returns-in-None c = (
   refl,
   λ f is e.
-      c.in-None.ensures c.args.clocks.count f is (body_front c.args.clocks.count f is c.args.bytes.now c.up-to-end.result c.up-to-end.ensures.value e),
+      c.in-None.ensures c.args.clocks.count f is (body_front c.args.clocks.count f is c.args.bytes.now c.up_to-end.result c.up_to-end.ensures.value e),
 )
 
 pub returns-in-None-found : goal.returns-in-None-found
 returns-in-None-found c = (
   refl,
   λ f is e.
-      c.in-None-found.ensures f is (c.in-Some.ensures c.args.clocks.count f is (body_front c.args.clocks.count f is c.args.bytes.now c.up-to-end.result c.up-to-end.ensures.value e)),
+      c.in-None-found.ensures f is (c.in-Some.ensures c.args.clocks.count f is (body_front c.args.clocks.count f is c.args.bytes.now c.up_to-end.result c.up_to-end.ensures.value e)),
 )
 
-pub returns-then-not-has-line : goal.returns-then-not-has-line
-returns-then-not-has-line c = (
+pub returns-then-not-has_line : goal.returns-then-not-has_line
+returns-then-not-has_line c = (
   refl,
   λ f is e.
-      let d = c.in-Some.ensures c.args.clocks.count f is (body_front c.args.clocks.count f is c.args.bytes.now c.up-to-end.result c.up-to-end.ensures.value e) in
+      let d = c.in-Some.ensures c.args.clocks.count f is (body_front c.args.clocks.count f is c.args.bytes.now c.up_to-end.result c.up_to-end.ensures.value e) in
       let same = c.in-Some-found.ensures.1 f is d in
-      both_ways c.has-line.result c.if-not-has-line.true (c.has-line.ensures.1 (ap (line c.args.clocks.count) (sym same) ∙ e)),
+      both_ways c.has_line.result c.if-not-has_line.true (c.has_line.ensures.1 (ap (line c.args.clocks.count) (sym same) ∙ e)),
 )
 
-pub returns-else-not-has-line : goal.returns-else-not-has-line
-returns-else-not-has-line c = record {
+pub returns-else-not-has_line : goal.returns-else-not-has_line
+returns-else-not-has_line c = record {
   is_entry = c.in-Some-found.ensures.0;
-  writes = c.has-line.ensures.0 c.if-not-has-line.false;
-  only = λ f is e. c.in-Some-found.ensures.1 f is (c.in-Some.ensures c.args.clocks.count f is (body_front c.args.clocks.count f is c.args.bytes.now c.up-to-end.result c.up-to-end.ensures.value e));
+  writes = c.has_line.ensures.0 c.if-not-has_line.false;
+  only = λ f is e. c.in-Some-found.ensures.1 f is (c.in-Some.ensures c.args.clocks.count f is (body_front c.args.clocks.count f is c.args.bytes.now c.up_to-end.result c.up_to-end.ensures.value e));
 }

@@ -3,5 +3,5 @@ use Rattle.zones.proofs.Props.{sound}
 use Rattle.entries.proofs.Short.{line_short}
 use Rattle.entries.proofs.entry.Entry.write.Goals as goal
 
-pub returns-in-err-line : goal.returns-in-err-line
-returns-in-err-line c = absurd c.in-err-line.ensures
+pub returns-in_err-line : goal.returns-in_err-line
+returns-in_err-line c = absurd c.in_err-line.ensures

@@ -7,7 +7,7 @@ use Rattle.texts.proofs.line.Line.clock_list.Goals.{else-part-eq1-via-then-part-
 
 pub returns-in-None : goal.returns-in-None
 returns-in-None c =
-    ap Err c.field-fault.ensures ∙ list_refused c.args.known c.args.self.number c.args.field (place c.args.part) Number
+    ap Err c.field_fault.ensures ∙ list_refused c.args.known c.args.self.number c.args.field (place c.args.part) Number
     (elim c.else-part-eq1.branch [
       | else-part-eq1-via-then-part-eq1+else-part-eq45 w ↦ dash_other c.args.part.bytes.now w.if-part-eq45.false
       | else-part-eq1-via-else-part-eq1 w ↦ dash_long c.args.part.bytes.now w.if-part-eq1.false

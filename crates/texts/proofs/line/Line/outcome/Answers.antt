@@ -5,7 +5,7 @@ use Rattle.texts.specs.Fields.{shown}
 use Rattle.texts.proofs.LineFacts.{field_high}
 use Rattle.texts.proofs.line.Line.outcome.Goals as goal
 
-pub overflow-cast-result : goal.overflow-cast-result
-overflow-cast-result c =
-    let high = field_high 0 1000 Number c.args.self.number 2 (place c.in-ok-chance.chance) (shown c.in-ok-chance-2.chance) c.in-ok-chance-2.ensures in
+pub overflow_cast-result : goal.overflow_cast-result
+overflow_cast-result c =
+    let high = field_high 0 1000 Number c.args.self.number 2 (place c.in_ok-chance.chance) (shown c.in_ok-chance-2.chance) c.in_ok-chance-2.ensures in
     omega (arith, high, c.number-3.ensures)

@@ -10,10 +10,10 @@ returns-then-at-text c =
 
 pub returns-then-n-rest : goal.returns-then-n-rest
 returns-then-n-rest c =
-    let h = line_there c.args.self.now.text.now c.args.self.now.at c.up-to-n.result c.if-at-text.false c.up-to-n.ensures.value c.if-n-rest.true in
+    let h = line_there c.args.self.now.text.now c.args.self.now.at c.up_to-n.result c.if-at-text.false c.up_to-n.ensures.value c.if-n-rest.true in
     record { answer = h.0; rest = h.1; count = refl; low = search rules; text = refl }
 
 pub returns : goal.returns
 returns c =
-    let h = line_open c.args.self.now.text.now c.args.self.now.at c.up-to-n.result c.if-at-text.false c.up-to-n.ensures.value c.if-n-rest.false in
+    let h = line_open c.args.self.now.text.now c.args.self.now.at c.up_to-n.result c.if-at-text.false c.up_to-n.ensures.value c.if-n-rest.false in
     record { answer = h.0; rest = h.1; count = refl; low = search rules; text = refl }
