@@ -11,15 +11,15 @@ use Rattle.texts.proofs.StateFacts.{step_sound}
 use Rattle.texts.proofs.Runs.{go_on, stop_here, run_torn, run_over, same_on, rest_shorter, all_ahead}
 use Rattle.texts.proofs.plan_text.read_lines.Goals as goal
 
-pub returns-in_err-progress : goal.returns-in_err-progress
-returns-in_err-progress c =
+pub returns-in_err-progress-in-Whole : goal.returns-in_err-progress-in-Whole
+returns-in_err-progress-in-Whole c =
     let p = err_from_is_err_and c.from_residual.result c.from_residual.ensures.1 in
     let s = state c.lines.progress (tables c.lines.rows) in
     let l : c.line-number.result ≡ c.lines.reader.line + 1 = c.line-number.ensures ∙ c.in-Whole.ensures.count in
-    let stay : tables c.read_line.new.rows ≡ tables c.lines.rows = c.in_err-progress.ensures.kept in
-    let end = stop_here (lines_ahead c.lines.reader) (place c.in-Whole.whole) s (fault c.in_err-progress.field-0.0) c.lines.reader.line c.line-number.result _ c.in-Whole.ensures.answer l c.in_err-progress.ensures.answer c.lines.invariant.1 in
-    let r : faulty c.from_residual.result ≡ Err (fault c.in_err-progress.field-0.0) = ap faulty p.1 ∙ ap (λ f. Err (fault f)) p.2 in
-    record { answer = (λ i. record { answer = r i; rows = stay i }) ∙ end; same = same_on _ _ _ c.in_err-progress.ensures.same c.lines.invariant.3 }
+    let stay : tables c.read_line.new.rows ≡ tables c.lines.rows = c.in_err-progress-in-Whole.ensures.kept in
+    let end = stop_here (lines_ahead c.lines.reader) (place c.in-Whole.whole) s (fault c.in_err-progress-in-Whole.field-0.0) c.lines.reader.line c.line-number.result _ c.in-Whole.ensures.answer l c.in_err-progress-in-Whole.ensures.answer c.lines.invariant.1 in
+    let r : faulty c.from_residual.result ≡ Err (fault c.in_err-progress-in-Whole.field-0.0) = ap faulty p.1 ∙ ap (λ f. Err (fault f)) p.2 in
+    record { answer = (λ i. record { answer = r i; rows = stay i }) ∙ end; same = same_on _ _ _ c.in_err-progress-in-Whole.ensures.same c.lines.invariant.3 }
 
 pub lines-preserved : goal.lines-preserved
 lines-preserved c =

@@ -9,39 +9,39 @@ use Rattle.stores.proofs.line_store.LineStore.keep.Goals as goal
 pub commit-requires : goal.commit-requires
 commit-requires c =
     let s = c.args.self.now in
-    let t = c.lay-all.new.self in
+    let t = c.lay_all.new.self in
     let n = s.clocks.count in
     let l = line n c.args.entry in
-    let is = c.in-ok-text.ensures in
-    let e = c.lay-all.ensures.bytes ∙ ap (written s.bytes.now s.used) (c.as-bytes.ensures ∙ is) in
+    let is = c.in_ok-text.ensures in
+    let e = c.lay_all.ensures.bytes ∙ ap (written s.bytes.now s.used) (c.as_bytes.ensures ∙ is) in
     let m : c.len-need.result ≡ length l = c.len-need.ensures.value ∙ ap length is in
     let fits : s.used + length l ≤ length s.bytes.now = omega (arith, m, c.room.ensures, s.fits) in
-    let k = ap (λ (x : ClockCount). x.count) c.lay-all.ensures.clocks in
+    let k = ap (λ (x : ClockCount). x.count) c.lay_all.ensures.clocks in
     record {
-      within = omega (arith, m, fits, c.lay-all.ensures.used, length_kept s.bytes.now t.bytes.now l s.used t.used e c.lay-all.ensures.used fits);
-      text = front_more s.bytes.now t.bytes.now l s.used t.used e c.lay-all.ensures.used fits c.len-need.result m ∙ ap (λ (x : ℕ). take t.used t.bytes.now ++ line x c.args.entry) (sym k);
-      entry = subst (λ (x : ℕ). IsEntry x c.args.entry) (sym k) (c.is-for.ensures.0 c.if-not-is-for.false);
+      within = omega (arith, m, fits, c.lay_all.ensures.used, length_kept s.bytes.now t.bytes.now l s.used t.used e c.lay_all.ensures.used fits);
+      text = front_more s.bytes.now t.bytes.now l s.used t.used e c.lay_all.ensures.used fits c.len-need.result m ∙ ap (λ (x : ℕ). take t.used t.bytes.now ++ line x c.args.entry) (sym k);
+      entry = subst (λ (x : ℕ). IsEntry x c.args.entry) (sym k) (c.is_for.ensures.0 c.if-not-is_for.false);
     }
 
 pub returns : goal.returns
 returns c =
     let s = c.args.self.now in
-    let t = c.lay-all.new.self in
+    let t = c.lay_all.new.self in
     let z = c.commit.new.self in
     let n = s.clocks.count in
     let l = line n c.args.entry in
-    let is = c.in-ok-text.ensures in
-    let e = c.lay-all.ensures.bytes ∙ ap (written s.bytes.now s.used) (c.as-bytes.ensures ∙ is) in
+    let is = c.in_ok-text.ensures in
+    let e = c.lay_all.ensures.bytes ∙ ap (written s.bytes.now s.used) (c.as_bytes.ensures ∙ is) in
     let m : c.len-need.result ≡ length l = c.len-need.ensures.value ∙ ap length is in
     let fits : s.used + length l ≤ length s.bytes.now = omega (arith, m, c.room.ensures, s.fits) in
     let all = c.commit.ensures.bytes ∙ e in
-    let used = c.commit.ensures.used ∙ ap (λ (x : ℕ). x + c.len-need.result) c.lay-all.ensures.used ∙ ap (λ (x : ℕ). s.used + x) m in
-    let count = c.commit.ensures.count ∙ ap (λ (x : ℕ). x + 1) c.lay-all.ensures.count in
-    let clocks = c.commit.ensures.clocks ∙ c.lay-all.ensures.clocks in
+    let used = c.commit.ensures.used ∙ ap (λ (x : ℕ). x + c.len-need.result) c.lay_all.ensures.used ∙ ap (λ (x : ℕ). s.used + x) m in
+    let count = c.commit.ensures.count ∙ ap (λ (x : ℕ). x + 1) c.lay_all.ensures.count in
+    let clocks = c.commit.ensures.clocks ∙ c.lay_all.ensures.clocks in
     let long = length_kept s.bytes.now z.bytes.now l s.used s.used all refl fits in
     let more = front_more s.bytes.now z.bytes.now l s.used s.used all refl fits (length l) refl in
     let front = front_kept s.bytes.now z.bytes.now l s.used s.used all refl fits in
-    let is_entry = c.is-for.ensures.0 c.if-not-is-for.false in
+    let is_entry = c.is_for.ensures.0 c.if-not-is_for.false in
     record {
       says = record {
         is_entry = is_entry;
@@ -51,5 +51,5 @@ returns c =
       };
       bytes = (all, used, count);
       clocks = clocks;
-      same = c.commit.ensures.same ∙ c.lay-all.ensures.same;
+      same = c.commit.ensures.same ∙ c.lay_all.ensures.same;
     }

@@ -3,8 +3,8 @@ use Rattle.std.proofs.lemmas.List.{take-set-le}
 use Rattle.stores.specs.Held.{Kept}
 use Rattle.stores.proofs.line_store.LineStore.lay.Goals as goal
 
-pub invariant-of-self : goal.invariant-of-self
-invariant-of-self c =
+pub invariant_of-self : goal.invariant_of-self
+invariant_of-self c =
     let s = c.args.self.now in
     let e = take-set-le s.used s.bytes.now c.args.k c.args.byte c.requires.past in
     (omega (arith, length-set s.bytes.now c.args.k c.args.byte, s.fits), (subst (λ (l : List ℕ). ∥ Kept s.clocks.count s.count l ∥₁) (sym e) s.kept, tt))

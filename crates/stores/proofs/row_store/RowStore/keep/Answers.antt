@@ -11,7 +11,7 @@ returns-in-Ok c =
     let long = ap (λ l. length l.rows) e ∙ length-set s.rows.now s.used c.args.entry in
     record {
       says = record {
-        is_entry = c.is-for.ensures.0 c.if-not-is-for.false;
+        is_entry = c.is_for.ensures.0 c.if-not-is_for.false;
         fits = omega (arith, p.0, c.len.ensures);
         entries = ap taken e ∙ rw add-one (take-suc-set _ _ _ p.0);
         room = omega (arith, p.0, c.len.ensures, long, ap (λ l. l.used) e);
