@@ -14,4 +14,4 @@ overflow_add-self c =
 pub invariant_of-self : goal.invariant_of-self
 invariant_of-self c =
     let s = c.args.self.now in
-    (c.requires.within, (subst (λ (l : List ℕ). ∥ Kept s.clocks.count (s.count + 1) l ∥₁) (sym c.requires.text) (kept_more s.clocks.count s.count (take s.used s.bytes.now) c.args.entry s.kept c.requires.entry), tt))
+    record { fits = c.requires.within; kept = subst (λ (l : List ℕ). ∥ Kept s.clocks.count (s.count + 1) l ∥₁) (sym c.requires.text) (kept_more s.clocks.count s.count (take s.used s.bytes.now) c.args.entry s.kept c.requires.entry) }

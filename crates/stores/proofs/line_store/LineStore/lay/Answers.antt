@@ -7,4 +7,4 @@ pub invariant_of-self : goal.invariant_of-self
 invariant_of-self c =
     let s = c.args.self.now in
     let e = take-set-le s.used s.bytes.now c.args.k c.args.byte c.requires.past in
-    (omega (arith, length-set s.bytes.now c.args.k c.args.byte, s.fits), (subst (λ (l : List ℕ). ∥ Kept s.clocks.count s.count l ∥₁) (sym e) s.kept, tt))
+    record { fits = omega (arith, length-set s.bytes.now c.args.k c.args.byte, s.fits); kept = subst (λ (l : List ℕ). ∥ Kept s.clocks.count s.count l ∥₁) (sym e) s.kept }

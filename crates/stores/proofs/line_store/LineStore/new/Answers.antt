@@ -3,4 +3,4 @@ use Rattle.stores.proofs.HeldFacts.{kept_none}
 use Rattle.stores.proofs.line_store.LineStore.new.Goals as goal
 
 pub invariant_of-result : goal.invariant_of-result
-invariant_of-result c = (omega arith, (kept_none c.args.clocks.count, tt))
+invariant_of-result c = record { fits = omega arith; kept = kept_none c.args.clocks.count }
