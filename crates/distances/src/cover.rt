@@ -7,7 +7,7 @@ use zones::zone::Zone;
 
 // Whether every state of the zone lies in the other; both are of the time domain.
 fn lies_within<T: TimeDomain>(zone: &Zone, other: &Zone, time: &T) -> bool
-    ensures { WithinTells (normal time.now) zone.now.codes other.now.codes result }
+    ensures { WithinTells (T.normal time.now) zone.now.codes other.now.codes result }
 {
     match zone.within(other, time) {
         Err(_) => false,
@@ -23,7 +23,7 @@ fn entry_covers<S: Store, T: TimeDomain>(
     zone: &Zone,
     k: usize,
 ) -> bool
-    ensures { EntryCovers (normal time.now) (S.Store.entries store.now) position zone.now.codes k result }
+    ensures { EntryCovers (T.normal time.now) (S.Store.entries store.now) position zone.now.codes k result }
 {
     if k >= store.count() {
         return false;
@@ -46,7 +46,7 @@ pub fn is_covered<S: Store, T: TimeDomain>(
     position: usize,
     zone: &Zone,
 ) -> bool
-    ensures { CoverTells (normal time.now) (S.Store.entries store.now) position zone.now.codes result }
+    ensures { CoverTells (T.normal time.now) (S.Store.entries store.now) position zone.now.codes result }
 {
     for k in 0..store.count() {
         if entry_covers(store, time, position, zone, k) {

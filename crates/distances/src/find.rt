@@ -8,7 +8,7 @@ use zones::zone::Zone;
 
 // Whether the zone, of the time domain, holds the state.
 fn has_state<T: TimeDomain>(zone: &Zone, time: &T, state: &State) -> bool
-    ensures { HoldTells (allows time.now) (normal time.now) state.now.scale state.now.readings.now zone.now.codes result }
+    ensures { HoldTells (T.allows time.now) (T.normal time.now) state.now.scale state.now.readings.now zone.now.codes result }
 {
     match zone.holds(time, state) {
         Err(_) => false,
@@ -24,7 +24,7 @@ fn round_in<S: Store, T: TimeDomain>(
     state: &State,
     k: usize,
 ) -> Option<u64>
-    ensures { EntryFinds (allows time.now) (normal time.now) (S.Store.entries store.now) state.now.scale position state.now.readings.now k result }
+    ensures { EntryFinds (T.allows time.now) (T.normal time.now) (S.Store.entries store.now) state.now.scale position state.now.readings.now k result }
 {
     if k >= store.count() {
         return None;
@@ -50,7 +50,7 @@ pub fn find<S: Store, T: TimeDomain>(
     position: usize,
     state: &State,
 ) -> Option<u64>
-    ensures { FindTells (allows time.now) (normal time.now) (S.Store.entries store.now) state.now.scale position state.now.readings.now result }
+    ensures { FindTells (T.allows time.now) (T.normal time.now) (S.Store.entries store.now) state.now.scale position state.now.readings.now result }
 {
     for k in 0..store.count() {
         match round_in(store, time, position, state, k) {

@@ -24,7 +24,7 @@ pub fn all() -> Zone
 
 // What remains of the zone in the box.
 fn cut_zone<T: TimeDomain>(zone: Zone, time: &T, area: &ClockBox) -> Result<Option<Zone>, Refusal>
-    ensures { CutTells (normal time.now) area.now.sides zone.codes result }
+    ensures { CutTells (T.normal time.now) area.now.sides zone.codes result }
 {
     let mut next = zone;
     match next.cut_box(time, area) {
@@ -42,7 +42,7 @@ pub fn cut_on<T: TimeDomain>(
     time: &T,
     area: &ClockBox,
 ) -> Result<Option<Zone>, Refusal>
-    ensures { CutOnTells (normal time.now) area.now.sides left result }
+    ensures { CutOnTells (T.normal time.now) area.now.sides left result }
 {
     match left {
         Err(why) => Err(why),
@@ -55,7 +55,7 @@ pub fn cut_on<T: TimeDomain>(
 
 // The zone, taken back in time.
 fn back_zone<T: TimeDomain>(zone: Zone, time: &T) -> Result<Option<Zone>, Refusal>
-    ensures { BackTells (normal time.now) zone.codes result }
+    ensures { BackTells (T.normal time.now) zone.codes result }
 {
     let mut next = zone;
     match next.back(time) {
@@ -69,7 +69,7 @@ pub fn back_on<T: TimeDomain>(
     left: Result<Option<Zone>, Refusal>,
     time: &T,
 ) -> Result<Option<Zone>, Refusal>
-    ensures { BackOnTells (normal time.now) left result }
+    ensures { BackOnTells (T.normal time.now) left result }
 {
     match left {
         Err(why) => Err(why),
@@ -105,7 +105,7 @@ pub fn undo_zone<T: TimeDomain>(
     time: &T,
     resets: &[bool; 8],
 ) -> Result<Option<Zone>, Refusal>
-    ensures { UndoTells (normal time.now) resets.now zone.codes result }
+    ensures { UndoTells (T.normal time.now) resets.now zone.codes result }
 {
     let clocks = clocks_of(resets);
     let mut next = zone;

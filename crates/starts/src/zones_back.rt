@@ -13,7 +13,7 @@ pub fn into_area<T: TimeDomain>(
     invariant: &ClockBox,
     area: &ClockBox,
 ) -> Result<Option<Zone>, Refusal>
-    ensures { GoalWay (normal time.now) invariant.now.sides area.now.sides result }
+    ensures { GoalWay (T.normal time.now) invariant.now.sides area.now.sides result }
 {
     let here = cut_on(Ok(Some(all())), time, invariant);
     let there = cut_on(here, time, area);
@@ -29,7 +29,7 @@ pub fn into_zone<T: TimeDomain>(
     guard: &ClockBox,
     invariant: &ClockBox,
 ) -> Result<Option<Zone>, Refusal>
-    ensures { StepWay (normal time.now) resets.now guard.now.sides invariant.now.sides zone.codes result }
+    ensures { StepWay (T.normal time.now) resets.now guard.now.sides invariant.now.sides zone.codes result }
 {
     let before = undo_zone(zone, time, resets);
     let guarded = cut_on(before, time, guard);

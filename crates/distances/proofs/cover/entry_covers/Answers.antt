@@ -7,4 +7,4 @@ returns-then-entry-position g c =
 
 pub returns-else-entry-position : goal.returns-else-entry-position
 returns-else-entry-position g c =
-    here (g.T.TimeDomain.normal c.args.time.now) (g.S.Store.entries c.args.store.now) c.args.position c.args.zone.now.codes c.args.k c.in-Ok.entry c.in-Ok.ensures c.lies-within.result c.if-entry-position.false c.lies-within.ensures
+    here (g.T.TimeDomain.normal c.args.time.now) (g.S.Store.entries c.args.store.now) c.args.position c.args.zone.now.codes c.args.k c.in-Ok.entry c.in-Ok.ensures c.lies_within.result c.if-entry-position.false c.lies_within.ensures

@@ -2,9 +2,9 @@ use Rattle.std.proofs.Common.{arith}
 use Rattle.distances.proofs.Covering.{looked_none, looked_more, looked_hit, looked_all}
 use Rattle.distances.proofs.cover.is_covered.Goals as goal
 
-pub returns-then-entry-covers : goal.returns-then-entry-covers
-returns-then-entry-covers g c =
-    looked_hit (g.T.TimeDomain.normal c.args.time.now) (g.S.Store.entries c.args.store.now) c.args.position c.args.zone.now.codes c.loop-k.k c.entry-covers.result c.if-entry-covers.true (omega (arith, c.count-k-end.ensures)) c.entry-covers.ensures c.loop-k.invariant
+pub returns-then-entry_covers : goal.returns-then-entry_covers
+returns-then-entry_covers g c =
+    looked_hit (g.T.TimeDomain.normal c.args.time.now) (g.S.Store.entries c.args.store.now) c.args.position c.args.zone.now.codes c.loop-k.k c.entry_covers.result c.if-entry_covers.true (omega (arith, c.count-k-end.ensures)) c.entry_covers.ensures c.loop-k.invariant
 
 pub returns : goal.returns
 returns g c =
@@ -12,4 +12,4 @@ returns g c =
 
 pub loop-k-preserved : goal.loop-k-preserved
 loop-k-preserved g c =
-    looked_more (g.T.TimeDomain.normal c.args.time.now) (g.S.Store.entries c.args.store.now) c.args.position c.args.zone.now.codes c.loop-k.k c.entry-covers.result c.if-entry-covers.false (omega (arith, c.count-k-end.ensures)) c.entry-covers.ensures c.loop-k.invariant
+    looked_more (g.T.TimeDomain.normal c.args.time.now) (g.S.Store.entries c.args.store.now) c.args.position c.args.zone.now.codes c.loop-k.k c.entry_covers.result c.if-entry_covers.false (omega (arith, c.count-k-end.ensures)) c.entry_covers.ensures c.loop-k.invariant

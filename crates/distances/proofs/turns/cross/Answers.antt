@@ -22,24 +22,24 @@ returns-then-outcome-held g c =
       clocks = refl;
     }
 
-pub returns-in-Err-move-at : goal.returns-in-Err-move-at
-returns-in-Err-move-at g c =
+pub returns-in-Err-move_at : goal.returns-in-Err-move_at
+returns-in-Err-move_at g c =
     let p = c.args.plan.now in
     let s = c.args.store.now in
     let n = g.S.Store.dimension s in
     record {
-      says = no_move_there (g.P.Plan.meaning p) (g.P.Plan.sound p) n (g.S.Store.need n) (g.S.Store.entries s) (g.S.Store.room s) c.args.round c.args.held.now c.args.k c.in-Ok.outcome c.in-Ok.ensures c.in-Err-move-at.why (Err c.in-Err-move-at.why) c.in-Err-move-at.ensures;
+      says = no_move_there (g.P.Plan.meaning p) (g.P.Plan.sound p) n (g.S.Store.need n) (g.S.Store.entries s) (g.S.Store.room s) c.args.round c.args.held.now c.args.k c.in-Ok.outcome c.in-Ok.ensures c.in-Err-move_at.why (Err c.in-Err-move_at.why) c.in-Err-move_at.ensures;
       clocks = refl;
     }
 
-pub returns-in-Ok-move-at : goal.returns-in-Ok-move-at
-returns-in-Ok-move-at g c =
+pub returns-in-Ok-move_at : goal.returns-in-Ok-move_at
+returns-in-Ok-move_at g c =
     let p = c.args.plan.now in
     let s = c.args.store.now in
     let n = g.S.Store.dimension s in
     record {
       says = crossed (g.P.Plan.meaning p) (g.P.Plan.sound p) n (g.S.Store.need n) (g.S.Store.entries s) (g.S.Store.room s) c.args.round c.args.held.now c.args.k c.in-Ok.outcome c.in-Ok.ensures
-          c.if-outcome-lt1.false c.if-outcome-held.false c.in-Ok-move-at.cause c.in-Ok-move-at.ensures c.step-zone-left.result c.offer.result
-          (g.S.Store.entries c.offer.new.store) (g.S.Store.room c.offer.new.store) c.step-zone-left.ensures c.offer.ensures.says;
+          c.if-outcome-lt1.false c.if-outcome-held.false c.in-Ok-move_at.cause c.in-Ok-move_at.ensures c.step_zone-left.result c.offer.result
+          (g.S.Store.entries c.offer.new.store) (g.S.Store.room c.offer.new.store) c.step_zone-left.ensures c.offer.ensures.says;
       clocks = c.offer.ensures.clocks;
     }

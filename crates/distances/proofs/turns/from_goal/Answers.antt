@@ -7,7 +7,7 @@ returns-in-Ok g c =
     let s = c.args.store.now in
     let n = g.S.Store.dimension s in
     record {
-      says = goal_said (g.P.Plan.meaning p) (g.P.Plan.sound p) n (g.S.Store.need n) (g.S.Store.entries s) (g.S.Store.room s) c.args.k c.in-Ok.goal c.in-Ok.ensures c.goal-zone-left.result c.offer.result
-          (g.S.Store.entries c.offer.new.store) (g.S.Store.room c.offer.new.store) c.goal-zone-left.ensures c.offer.ensures.says;
+      says = goal_said (g.P.Plan.meaning p) (g.P.Plan.sound p) n (g.S.Store.need n) (g.S.Store.entries s) (g.S.Store.room s) c.args.k c.in-Ok.goal c.in-Ok.ensures c.goal_zone-left.result c.offer.result
+          (g.S.Store.entries c.offer.new.store) (g.S.Store.room c.offer.new.store) c.goal_zone-left.ensures c.offer.ensures.says;
       clocks = c.offer.ensures.clocks;
     }

@@ -10,7 +10,7 @@ pub returns-in-Kept : goal.returns-in-Kept
 returns-in-Kept g c p z =
     let k = c.args.time.now in
     let t = g.T.TimeDomain in
-    let y = c.cut-box.new.self in
+    let y = c.cut_box.new.self in
     cut_kept (t.allows k) (t.normal k) (t.lawful k) c.args.area.now.sides c.args.zone.codes y.codes c.whole.ensures.many y.ok (subst (λ l. BoxSays (scales (t.allows k)) (t.normal k) c.args.area.now.sides c.args.zone.codes y.codes (Ok l)) c.in-Kept.is c.in-Ok.ensures) p z
     ∙ ap (λ (x : Zone). kept x.codes) (sym c.whole.ensures.is)
 
@@ -18,10 +18,10 @@ pub returns-in-Empty : goal.returns-in-Empty
 returns-in-Empty g c p z =
     let k = c.args.time.now in
     let t = g.T.TimeDomain in
-    cut_none (t.allows k) (t.normal k) (t.lawful k) c.args.area.now.sides c.args.zone.codes c.cut-box.new.self.codes (subst (λ l. BoxSays (scales (t.allows k)) (t.normal k) c.args.area.now.sides c.args.zone.codes c.cut-box.new.self.codes (Ok l)) c.in-Empty.is c.in-Ok.ensures) p z
+    cut_none (t.allows k) (t.normal k) (t.lawful k) c.args.area.now.sides c.args.zone.codes c.cut_box.new.self.codes (subst (λ l. BoxSays (scales (t.allows k)) (t.normal k) c.args.area.now.sides c.args.zone.codes c.cut_box.new.self.codes (Ok l)) c.in-Empty.is c.in-Ok.ensures) p z
 
 pub returns-in-Err : goal.returns-in-Err
 returns-in-Err g c p z =
     let k = c.args.time.now in
     let t = g.T.TimeDomain in
-    cut_beyond (t.allows k) (t.normal k) (t.lawful k) c.args.area.now.sides c.args.zone.codes c.cut-box.new.self.codes c.in-Err.why c.in-Err.ensures p z
+    cut_beyond (t.allows k) (t.normal k) (t.lawful k) c.args.area.now.sides c.args.zone.codes c.cut_box.new.self.codes c.in-Err.why c.in-Err.ensures p z

@@ -11,8 +11,8 @@ returns-in-Kept g c z =
     let k = c.args.time.now in
     let t = g.T.TimeDomain in
     let y = c.undo.new.self in
-    undo_kept (t.allows k) (t.normal k) (t.lawful k) c.args.resets.now c.clocks-of-clocks.result c.clocks-of-clocks.ensures c.args.zone.codes y.codes c.whole.ensures.many y.ok
-    (subst (λ l. UndoSays (scales (t.allows k)) (t.normal k) c.clocks-of-clocks.result c.args.zone.codes y.codes (Ok l)) c.in-Kept.is c.in-Ok.ensures) z
+    undo_kept (t.allows k) (t.normal k) (t.lawful k) c.args.resets.now c.clocks_of-clocks.result c.clocks_of-clocks.ensures c.args.zone.codes y.codes c.whole.ensures.many y.ok
+    (subst (λ l. UndoSays (scales (t.allows k)) (t.normal k) c.clocks_of-clocks.result c.args.zone.codes y.codes (Ok l)) c.in-Kept.is c.in-Ok.ensures) z
     ∙ ap (λ (x : Zone). kept x.codes) (sym c.whole.ensures.is)
 
 pub returns-in-Empty : goal.returns-in-Empty
@@ -20,5 +20,5 @@ returns-in-Empty g c z =
     let k = c.args.time.now in
     let t = g.T.TimeDomain in
     let y = c.undo.new.self in
-    undo_none (t.allows k) (t.normal k) (t.lawful k) c.args.resets.now c.clocks-of-clocks.result c.clocks-of-clocks.ensures c.args.zone.codes y.codes
-    (subst (λ l. UndoSays (scales (t.allows k)) (t.normal k) c.clocks-of-clocks.result c.args.zone.codes y.codes (Ok l)) c.in-Empty.is c.in-Ok.ensures) z
+    undo_none (t.allows k) (t.normal k) (t.lawful k) c.args.resets.now c.clocks_of-clocks.result c.clocks_of-clocks.ensures c.args.zone.codes y.codes
+    (subst (λ l. UndoSays (scales (t.allows k)) (t.normal k) c.clocks_of-clocks.result c.args.zone.codes y.codes (Ok l)) c.in-Empty.is c.in-Ok.ensures) z

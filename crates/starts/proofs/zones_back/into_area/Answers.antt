@@ -17,4 +17,4 @@ returns g c pi pa =
     let z1 = cut inv pi (kept whole) whole_is in
     let z2 = cut area pa o z1 in
     let z3 = back_of (t.allows k) (t.normal k) (t.lawful k) p z2 in
-    c.cut-on.ensures (then p back_zone) (c.back-on-earlier.ensures p (c.cut-on-there.ensures o (c.cut-on-here.ensures (kept whole) (ap kept (sym c.all.ensures)) whole_is pi) z1 pa) z2) z3 pi
+    c.cut_on.ensures (then p back_zone) (c.back_on-earlier.ensures p (c.cut_on-there.ensures o (c.cut_on-here.ensures (kept whole) (ap kept (sym c.all.ensures)) whole_is pi) z1 pa) z2) z3 pi

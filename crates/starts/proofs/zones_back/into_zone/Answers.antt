@@ -18,4 +18,4 @@ returns g c pg pi z =
     let z1 = cut guard pg n z0 in
     let z2 = cut inv pi o z1 in
     let z3 = back_of (t.allows k) (t.normal k) (t.lawful k) p z2 in
-    c.cut-on.ensures (then p back_zone) (c.back-on-earlier.ensures p (c.cut-on-here.ensures o (c.cut-on-guarded.ensures n (c.undo-zone-before.ensures z) z0 pg) z1 pi) z2) z3 pi
+    c.cut_on.ensures (then p back_zone) (c.back_on-earlier.ensures p (c.cut_on-here.ensures o (c.cut_on-guarded.ensures n (c.undo_zone-before.ensures z) z0 pg) z1 pi) z2) z3 pi

@@ -17,32 +17,32 @@ returns-in-Some g c =
     let s = c.args.self.now in
     let st = c.args.state.now in
     tell_answer (g.P.Plan.meaning s.plan) (g.P.Plan.sound s.plan) (g.S.Store.dimension s.store) (g.S.Store.entries s.store) (g.S.Store.room s.store) s.rounds st.scale c.args.position st.readings.now
-    c.is-askable.result c.if-not-is-askable.false c.is-askable.ensures _ _ c.time-time.ensures.allows c.time-time.ensures.normal (Some c.in-Some.round) c.in-Some.ensures s.phase (Distance c.in-Some.round) (some_answer s.phase s.rounds c.in-Some.round)
+    c.is_askable.result c.if-not-is_askable.false c.is_askable.ensures _ _ c.time-time.ensures.allows c.time-time.ensures.normal (Some c.in-Some.round) c.in-Some.ensures s.phase (Distance c.in-Some.round) (some_answer s.phase s.rounds c.in-Some.round)
 
 pub returns-in-Closed : goal.returns-in-Closed
 returns-in-Closed g c =
     let s = c.args.self.now in
     let st = c.args.state.now in
     tell_answer (g.P.Plan.meaning s.plan) (g.P.Plan.sound s.plan) (g.S.Store.dimension s.store) (g.S.Store.entries s.store) (g.S.Store.room s.store) s.rounds st.scale c.args.position st.readings.now
-    c.is-askable.result c.if-not-is-askable.false c.is-askable.ensures _ _ c.time-time.ensures.allows c.time-time.ensures.normal (None) c.in-None.ensures s.phase (NoRoute) (sym (ap (λ p. answer p s.rounds None) c.in-Closed.is))
+    c.is_askable.result c.if-not-is_askable.false c.is_askable.ensures _ _ c.time-time.ensures.allows c.time-time.ensures.normal (None) c.in-None.ensures s.phase (NoRoute) (sym (ap (λ p. answer p s.rounds None) c.in-Closed.is))
 
 pub returns-in-Open : goal.returns-in-Open
 returns-in-Open g c =
     let s = c.args.self.now in
     let st = c.args.state.now in
     tell_answer (g.P.Plan.meaning s.plan) (g.P.Plan.sound s.plan) (g.S.Store.dimension s.store) (g.S.Store.entries s.store) (g.S.Store.room s.store) s.rounds st.scale c.args.position st.readings.now
-    c.is-askable.result c.if-not-is-askable.false c.is-askable.ensures _ _ c.time-time.ensures.allows c.time-time.ensures.normal (None) c.in-None.ensures s.phase (Untold s.rounds) (sym (ap (λ p. answer p s.rounds None) c.in-Open.is))
+    c.is_askable.result c.if-not-is_askable.false c.is_askable.ensures _ _ c.time-time.ensures.allows c.time-time.ensures.normal (None) c.in-None.ensures s.phase (Untold s.rounds) (sym (ap (λ p. answer p s.rounds None) c.in-Open.is))
 
 pub returns-in-Stopped : goal.returns-in-Stopped
 returns-in-Stopped g c =
     let s = c.args.self.now in
     let st = c.args.state.now in
     tell_answer (g.P.Plan.meaning s.plan) (g.P.Plan.sound s.plan) (g.S.Store.dimension s.store) (g.S.Store.entries s.store) (g.S.Store.room s.store) s.rounds st.scale c.args.position st.readings.now
-    c.is-askable.result c.if-not-is-askable.false c.is-askable.ensures _ _ c.time-time.ensures.allows c.time-time.ensures.normal (None) c.in-None.ensures s.phase (Untold s.rounds) (sym (ap (λ p. answer p s.rounds None) c.in-Stopped.is))
+    c.is_askable.result c.if-not-is_askable.false c.is_askable.ensures _ _ c.time-time.ensures.allows c.time-time.ensures.normal (None) c.in-None.ensures s.phase (Untold s.rounds) (sym (ap (λ p. answer p s.rounds None) c.in-Stopped.is))
 
 pub returns-in-Unfit : goal.returns-in-Unfit
 returns-in-Unfit g c =
     let s = c.args.self.now in
     let st = c.args.state.now in
     tell_answer (g.P.Plan.meaning s.plan) (g.P.Plan.sound s.plan) (g.S.Store.dimension s.store) (g.S.Store.entries s.store) (g.S.Store.room s.store) s.rounds st.scale c.args.position st.readings.now
-    c.is-askable.result c.if-not-is-askable.false c.is-askable.ensures _ _ c.time-time.ensures.allows c.time-time.ensures.normal (None) c.in-None.ensures s.phase (Untold s.rounds) (sym (ap (λ p. answer p s.rounds None) c.in-Unfit.is))
+    c.is_askable.result c.if-not-is_askable.false c.is_askable.ensures _ _ c.time-time.ensures.allows c.time-time.ensures.normal (None) c.in-None.ensures s.phase (Untold s.rounds) (sym (ap (λ p. answer p s.rounds None) c.in-Unfit.is))
