@@ -2,6 +2,7 @@
 
 mod shown;
 
+use anyhow::anyhow;
 use bounds::bound::Bound;
 use bounds::refusal::Refusal;
 use bounds::time::{PlanTime, TimeDomain};
@@ -89,14 +90,14 @@ fn over_rows<'a, T: TimeDomain + Copy>(
 ) -> anyhow::Result<()> {
     match TablePlan::new(time, 1, positions, moves, outcomes, goals) {
         Ok(plan) => under_deadline(rt, plan),
-        Err(fault) => Err(told(fault.refusal).into()),
+        Err(fault) => Err(anyhow!(told(fault.refusal))),
     }
 }
 
 fn under_deadline<P: Plan + Drop>(rt: &HostRuntime, plan: P) -> anyhow::Result<()> {
     match Deadline::new(plan, 6) {
         Ok(timed) => play_back(rt, &timed),
-        Err(refused) => Err(told(refused.refusal).into()),
+        Err(refused) => Err(anyhow!(told(refused.refusal))),
     }
 }
 
@@ -108,7 +109,7 @@ fn play_back<P: Plan>(rt: &HostRuntime, plan: &P) -> anyhow::Result<()> {
             printed?;
             Ok(())
         }
-        Err(why) => Err(told(why).into()),
+        Err(why) => Err(anyhow!(told(why))),
     }
 }
 

@@ -30,7 +30,7 @@ returns-then-is_covered g c =
     let n = g.S.Store.dimension s in
     record {
       says = λ need' a r o t f. offer_dropped (g.P.Plan.meaning p) (g.P.Plan.sound p) n (g.S.Store.need n) c.args.round c.args.position (g.S.Store.entries s) (g.S.Store.room s) need' a r
-          _ c.time-time.ensures.normal c.in-Some.zone o (subst (λ x. Tells o (Ok x)) c.in-Some.is (subst (Tells o) c.in-Ok.is t)) (f (lawful_of (g.P.Plan.meaning p) _ _ c.time-time.ensures.allows c.time-time.ensures.normal (g.Time.TimeDomain.lawful c.time-time.result))) c.is_covered.result c.is_covered.ensures tt c.if-is_covered.true;
+          _ c.time-time.ensures.normal c.in-Some.zone o (subst (λ x. Tells o (Ok x)) c.in-Some.is (subst (Tells o) c.in-Ok.is t)) (f (lawful_of (g.P.Plan.meaning p) _ _ c.time-time.ensures.allows c.time-time.ensures.normal (g.P.Time.TimeDomain.lawful c.time-time.result))) c.is_covered.result c.is_covered.ensures tt c.if-is_covered.true;
       clocks = refl;
     }
 
@@ -42,7 +42,7 @@ returns-else-is_covered g c =
     let small : c.args.round < 2 ^ 64 = search rules in
     record {
       says = λ need' a r o t f. offer_put (g.P.Plan.meaning p) (g.P.Plan.sound p) n (g.S.Store.need n) c.args.round c.args.position (g.S.Store.entries s) (g.S.Store.room s) need' a r
-          _ c.time-time.ensures.normal c.in-Some.zone o (subst (λ x. Tells o (Ok x)) c.in-Some.is (subst (Tells o) c.in-Ok.is t)) (f (lawful_of (g.P.Plan.meaning p) _ _ c.time-time.ensures.allows c.time-time.ensures.normal (g.Time.TimeDomain.lawful c.time-time.result))) c.is_covered.result c.is_covered.ensures c.if-is_covered.false small
+          _ c.time-time.ensures.normal c.in-Some.zone o (subst (λ x. Tells o (Ok x)) c.in-Some.is (subst (Tells o) c.in-Ok.is t)) (f (lawful_of (g.P.Plan.meaning p) _ _ c.time-time.ensures.allows c.time-time.ensures.normal (g.P.Time.TimeDomain.lawful c.time-time.result))) c.is_covered.result c.is_covered.ensures c.if-is_covered.false small
           c.put.result (g.S.Store.entries c.put.new.self) (g.S.Store.room c.put.new.self) c.put.ensures.says;
       clocks = c.put.ensures.clocks;
     }
