@@ -6,8 +6,8 @@ use Rattle.std.proofs.lemmas.Int.{by_lt_z}
 use Rattle.bounds.specs.Bounds.{UpperBound, none, upto, plus, level, Meets, Tight}
 use Rattle.bounds.specs.Domains.{Alike, Lawful, scales}
 use Rattle.bounds.specs.Chosen.{AlwaysAlike}
-use Rattle.bounds.specs.Laws.{times_is, times_le, times_plus, tight_total, tight_same, tight_refl, meets_looser}
-use Rattle.bounds.proofs.ScaleLaws.{ScaleLaws, scale_laws, scale_big, scale_allowed, scale_is}
+use Rattle.bounds.specs.Laws.{times_is, times_le, times_plus, tight_same}
+use Rattle.bounds.proofs.ScaleLaws.{ScaleLaws, scale_laws, scale_allowed}
 
 all_met : (l : UpperBound) → ((d : ℤ) → Meets 1 d l) → l ≡ none
 unfolding Meets

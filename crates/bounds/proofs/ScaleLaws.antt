@@ -1,5 +1,5 @@
 -- The laws of a time domain, for the scales that count: those from 1 up that it allows
-use Rattle.std.proofs.Common.{◌≡◌, ℕ, ◌+◌, ◌*◌, ◌<◌, ◌≤◌, Bool, true, false, ◌&&◌, leb, ℤ, sym, refl, ap, ◌∙◌, subst, mul-le-mul_right, one-mul, arith}
+use Rattle.std.proofs.Common.{◌≡◌, ℕ, ◌*◌, ◌≤◌, Bool, true, false, ◌&&◌, leb, ℤ, refl, ap, ◌∙◌, mul-le-mul_right, one-mul, arith}
 use Rattle.std.proofs.lemmas.Bool.{leb-true, le-leb}
 use Rattle.bounds.specs.Bounds.{UpperBound, plus, level, Meets}
 use Rattle.bounds.specs.Domains.{Split, Alike, Lawful, scales}

@@ -1,5 +1,5 @@
 -- Upper bounds on a difference of two readings: `< c`, `<= c` and none.
-use Rattle.std.specs.Prelude.{ℕ, Bool, true, false, ◌&&◌, ℤ, pos, negsuc, ◌+ℤ◌, ◌*ℤ◌, ◌≤ℤ◌, ◌<ℤ◌}
+use Rattle.std.specs.Prelude.{ℕ, Bool, true, false, ◌&&◌, ℤ, pos, ◌+ℤ◌, ◌*ℤ◌, ◌≤ℤ◌, ◌<ℤ◌}
 
 -- `upto true c` is `<= c`, and `upto false c` is `< c`
 pub data UpperBound : Type 0 where

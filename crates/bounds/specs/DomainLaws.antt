@@ -1,14 +1,14 @@
 -- Cycle time and hand time keep the laws of a time domain
-use Rattle.std.specs.Prelude.{◌≡◌, ℕ, ◌+◌, ◌*◌, ◌<◌, ◌≤◌, min, Bool, true, false, ◌&&◌, ℤ, pos, negsuc, ◌+ℤ◌, ◌-ℤ◌, ◌*ℤ◌, ◌≤ℤ◌, ◌<ℤ◌, refl}
+use Rattle.std.specs.Prelude.{◌≡◌, ℕ, ◌*◌, ◌≤◌, Bool, true, false, ℤ, pos, ◌+ℤ◌, ◌-ℤ◌, ◌*ℤ◌, refl}
 use Rattle.std.proofs.Common.{sym, ap, ◌∙◌, subst, arith, one-mul, mul_comm, mul_assoc}
 use borrow.Author.Differences.{ints, up, down}
 use Rattle.std.proofs.lemmas.Bool.{eqb-true, leb-true, le-leb}
-use Rattle.bounds.specs.Bounds.{UpperBound, none, upto, plus, level, Meets, Tight, bit}
+use Rattle.bounds.specs.Bounds.{UpperBound, none, upto, plus, Meets}
 use Rattle.bounds.specs.declared.time.PlanTime.{PlanTime}
 use Rattle.bounds.specs.declared.time.PlanTime.TheVariants.{Cycle, Hand}
 use Rattle.bounds.specs.Chosen.{plan_allows, plan_normal}
 use Rattle.bounds.specs.Domains.{Lawful, Split, Alike, cycle_allows, cycle_normal, hand_allows, hand_normal}
-use Rattle.bounds.specs.Laws.{times_is, times_le, times_plus}
+use Rattle.bounds.specs.Laws.{times_is, times_plus}
 
 -- ---- cycle time
 times_1 : (c : ℤ) (D : ℕ) → D ≡ 1 → c *ℤ pos D ≡ c

@@ -1,5 +1,5 @@
 -- What a time domain has to show, and the two that are built in.
-use Rattle.std.specs.Prelude.{◌≡◌, ℕ, ◌*◌, ◌≤◌, Bool, true, false, ◌&&◌, ℤ, pos, negsuc, ◌+ℤ◌, ◌-ℤ◌, ◌*ℤ◌, ◌==◌, nat_le}
+use Rattle.std.specs.Prelude.{◌≡◌, ℕ, ◌*◌, ◌≤◌, Bool, true, false, ◌&&◌, ℤ, pos, ◌+ℤ◌, ◌-ℤ◌, ◌*ℤ◌, ◌==◌, nat_le}
 use Rattle.bounds.specs.Bounds.{UpperBound, none, upto, plus, level, Meets}
 
 -- d at the scale D, written at some multiple m of it that is allowed, is a sum of two that meet one bound each

@@ -1,5 +1,5 @@
 -- Bounds as the program holds them, and what their sum answers.
-use Rattle.std.specs.Prelude.{◌≡◌, Bool, true, false, ◌⊎◌, ℤ, pos, negsuc, ◌<ℤ◌, Some, None, Ok, Err, Option, Result}
+use Rattle.std.specs.Prelude.{◌≡◌, Bool, true, ◌⊎◌, pos, negsuc, ◌<ℤ◌, Some, None, Ok, Err, Option, Result}
 use Rattle.bounds.specs.declared.refusal.Refusal.{Refusal}
 use Rattle.bounds.specs.declared.refusal.Refusal.TheVariants as refused
 use Rattle.bounds.specs.declared.bound.Bound.{Bound}

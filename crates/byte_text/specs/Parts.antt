@@ -1,5 +1,5 @@
 -- The parts of a text between marks, as lines between line ends, fields between tabs and items between commas.
-use Rattle.std.specs.Prelude.{ℕ, suc, ◌+◌, ◌-◌, ◌^◌, ◌<◌, min, Bool, true, false, cond, List, [], ◌∷◌, length, Some, None, Option, ◌==◌}
+use Rattle.std.specs.Prelude.{ℕ, suc, ◌+◌, ◌-◌, ◌^◌, ◌<◌, min, cond, List, [], ◌∷◌, length, Some, None, Option, ◌==◌}
 use Rattle.byte_text.specs.declared.parts.Part.{Part}
 use Rattle.byte_text.specs.declared.parts.Parts.{Parts}
 

@@ -1,6 +1,6 @@
 -- Set-up and answers of a search
-use Rattle.std.proofs.Common.{◌≡◌, ℕ, ◌+◌, ◌<◌, ◌≤◌, Bool, true, false, cond, ◌&&◌, eqb, List, [], ◌∷◌, length, get_or, Some, None, Ok, Err, Option, Result, sym, refl, ap, ◌∙◌, subst, ⊎_elim, arith}
-use Rattle.std.proofs.lemmas.Bool.{cond-true, cond-false, and_from, and_left, and_right, eq-eqb, ne_eqb, cases_Bool, true≢false, false≢true}
+use Rattle.std.proofs.Common.{◌≡◌, ℕ, ◌≤◌, Bool, true, false, ◌&&◌, eqb, List, length, Ok, Err, Option, Result, sym, refl, ap, ◌∙◌, ⊎_elim, arith}
+use Rattle.std.proofs.lemmas.Bool.{cond-true, cond-false, and_from, and_left, and_right, eq-eqb, ne_eqb, cases_Bool}
 use Rattle.bounds.specs.declared.refusal.Refusal.{Refusal}
 use Rattle.bounds.specs.declared.refusal.Refusal.TheVariants as refused
 use Rattle.bounds.specs.Bounds.{UpperBound}
@@ -10,16 +10,14 @@ use Rattle.entries.specs.declared.entry.Entry.{Entry}
 use Rattle.rounds.specs.declared.replies.Phase.{Phase}
 use Rattle.rounds.specs.declared.replies.Phase.TheVariants.{Open, Closed, Stopped, Unfit}
 use Rattle.rounds.specs.declared.replies.Answer.{Answer}
-use Rattle.rounds.specs.declared.replies.Answer.TheVariants.{Distance, NoRoute, Untold}
-use Rattle.rounds.specs.Rounds.{Entry as Row}
-use Rattle.rounds.specs.Searches.{Askable, askable, answer, asked, find, step, set_up}
+use Rattle.rounds.specs.Searches.{Askable, askable, answer, find, step}
 use Rattle.rounds.specs.Searches.Call.{ask}
 use Rattle.rounds.specs.Searches.Reply.{told}
 use Rattle.rounds.proofs.Runs.{askable_yes, yes_askable}
 use Rattle.distances.specs.Rows.{rows}
 use Rattle.distances.specs.Turns.{Ready}
 use Rattle.distances.specs.Finds.{FindTells}
-use Rattle.distances.specs.Searching.{view, ask_reply, Fit, NewSays, AskableTells, TellSays, AskSays}
+use Rattle.distances.specs.Searching.{view, NewSays, AskableTells, TellSays, AskSays}
 use Rattle.distances.proofs.Covering.{many_rows}
 use Rattle.distances.proofs.Offering.{zones_of}
 

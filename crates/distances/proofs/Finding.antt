@@ -1,22 +1,22 @@
 -- Entries asked for a state one by one
-use Rattle.std.proofs.Common.{◌≡◌, ℕ, zero, suc, ◌+◌, ◌-◌, ◌<◌, ◌≤◌, Bool, true, false, cond, ◌&&◌, eqb, List, [], ◌∷◌, map, length, get_or, drop, Some, None, Ok, Option, sym, refl, ap, ◌∙◌, subst, arith}
+use Rattle.std.proofs.Common.{◌≡◌, ℕ, ◌+◌, ◌<◌, ◌≤◌, Bool, true, false, cond, ◌&&◌, eqb, List, length, drop, Some, None, Ok, Option, sym, refl, ap, ◌∙◌, subst, arith}
 use mathlib.Core.Path.{fun_ext}
 use Rattle.std.proofs.lemmas.List.{at_drop_more, at_drop_all}
-use Rattle.std.proofs.lemmas.Bool.{eq-eqb, ne_eqb, cond-true, cond-false, cases_Bool}
+use Rattle.std.proofs.lemmas.Bool.{eq-eqb, ne_eqb, cond-true, cond-false}
 use Rattle.bounds.specs.Bounds.{UpperBound}
 use Rattle.zones.specs.declared.codes.Code.{Code}
 use Rattle.zones.specs.Calls.{HoldsSays}
-use Rattle.zones.specs.States.{Good, value_of, reading}
+use Rattle.zones.specs.States.{Good, value_of}
 use Rattle.plans.specs.Items.{Item}
 use Rattle.entries.specs.declared.entry.Entry.{Entry}
 use Rattle.rounds.specs.Codes.{holds_zone}
 use Rattle.rounds.specs.Calls.{ZoneOf}
-use Rattle.rounds.specs.Held.{clock, holds_state}
+use Rattle.rounds.specs.Held.{holds_state}
 use Rattle.rounds.specs.Rounds.{Entry as Row, no_entry, entry_at}
 use Rattle.rounds.specs.Searches.{find}
 use Rattle.rounds.proofs.Calling.{holds_only}
 use Rattle.rounds.proofs.Readings.{clock_value}
-use Rattle.distances.specs.Rows.{row, rows, Zones}
+use Rattle.distances.specs.Rows.{rows, Zones}
 use Rattle.distances.specs.Finds.{HoldTells, found_in, EntryFinds, FindTells}
 use Rattle.distances.proofs.Covering.{many_rows, row_read}
 

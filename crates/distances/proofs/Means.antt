@@ -1,23 +1,19 @@
 -- What a search does, told by routes
-use Rattle.std.proofs.Common.{◌≡◌, ℕ, ◌<◌, List, Ok, Err, Result, sym, refl, ap, ◌∙◌, subst}
+use Rattle.std.proofs.Common.{ℕ, List, Result, sym, subst}
 use mathlib.Core.Logic.{∥∥₁_elim, ∥∥₁_map, ∥∥₁_prop}
 use Rattle.bounds.specs.declared.refusal.Refusal.{Refusal}
-use Rattle.bounds.specs.Domains.{Lawful}
 use Rattle.plans.specs.Meaning.{PlanMeaning, WellFormed}
 use Rattle.entries.specs.declared.entry.Entry.{Entry}
 use Rattle.rounds.specs.declared.replies.Phase.{Phase}
 use Rattle.rounds.specs.declared.replies.Answer.{Answer}
-use Rattle.rounds.specs.Rounds.{Entry as Row}
 use Rattle.rounds.specs.Stands.{Stands}
-use Rattle.rounds.specs.Searches.{Search, Reply, step, Replied}
+use Rattle.rounds.specs.Searches.{Search, Replied}
 use Rattle.rounds.specs.Searches.Call.{widen, ask}
-use Rattle.rounds.specs.Theorems.{RoundKept}
 use Rattle.rounds.proofs.Laws.{laws}
 use Rattle.rounds.proofs.Kept.{round_kept}
 use Rattle.rounds.proofs.Told.{answers_say}
 use Rattle.rounds.proofs.Runs.{step_fine}
-use Rattle.distances.specs.Rows.{rows}
-use Rattle.distances.specs.Searching.{view, ask_reply, WidenSays, WidenMeans, AskSays, AskMeans}
+use Rattle.distances.specs.Searching.{view, WidenSays, WidenMeans, AskSays, AskMeans}
 
 module _ (M : PlanMeaning) (formed : WellFormed M) (n : ℕ) where
   pub widen_means : (need : Entry → ℕ) (ph : Phase) (es : List Entry) (m f : ℕ) (r : Result ℕ Refusal) (ph' : Phase) (fs : List Entry) (k f' : ℕ) → WidenSays M n need ph es m f r ph' fs k f' → WidenMeans M n need ph es f ph' fs f'

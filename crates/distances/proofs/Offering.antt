@@ -1,5 +1,5 @@
 -- One start over a store
-use Rattle.std.proofs.Common.{◌≡◌, ℕ, zero, suc, ◌+◌, ◌-◌, ◌^◌, ◌<◌, ◌≤◌, Bool, true, false, cond, leb, ◌⊎◌, List, [], ◌∷◌, ◌++◌, map, length, ℤ, pos, ◌-ℤ◌, ◌≤ℤ◌, Ok, Err, Option, Result, sym, refl, ap, ◌∙◌, subst, ⊎_elim, arith}
+use Rattle.std.proofs.Common.{◌≡◌, ℕ, ◌-◌, ◌^◌, ◌<◌, Bool, true, false, leb, List, [], ◌∷◌, ◌++◌, length, ℤ, pos, ◌-ℤ◌, ◌≤ℤ◌, Ok, Err, Result, sym, refl, ap, ◌∙◌, subst, ⊎_elim, arith}
 use borrow.Author.Differences.{ints}
 use Rattle.std.proofs.lemmas.Bool.{cond-true, cond-false, le-leb, lt-leb, cases_eq, cases_lt}
 use Rattle.bounds.specs.declared.refusal.Refusal.{Refusal}
@@ -10,18 +10,17 @@ use Rattle.bounds.specs.Domains.{Lawful}
 use Rattle.zones.specs.declared.codes.Code.{Code}
 use Rattle.zones.specs.declared.zone.Zone.{Zone}
 use Rattle.zones.specs.Codes.{at, decode, code_of}
-use Rattle.zones.specs.Matrices.{Holds, Readings}
 use Rattle.plans.specs.Meaning.{PlanMeaning, WellFormed}
 use Rattle.entries.specs.declared.entry.Entry.{Entry}
 use Rattle.entries.specs.Entries.{AsksNothing, IsEntry}
 use Rattle.stores.specs.Puts.{PutSays}
 use Rattle.rounds.specs.Codes.{Remains}
-use Rattle.rounds.specs.Codes.Remains.{kept, empty, beyond}
+use Rattle.rounds.specs.Codes.Remains.{kept, empty}
 use Rattle.rounds.specs.Answers.{ZoneCodes}
 use Rattle.rounds.specs.Calls.{ZoneOf}
 use Rattle.rounds.specs.Unused.{Unasked}
-use Rattle.rounds.specs.Rounds.{Entry as Row, entry_at, covering, put, offer, tried, Turn}
-use Rattle.rounds.specs.Rounds.Turn.{done, full, range}
+use Rattle.rounds.specs.Rounds.{Entry as Row, entry_at, covering, put, offer, tried}
+use Rattle.rounds.specs.Rounds.Turn.{done, full}
 use Rattle.rounds.specs.Stands.{EntryOf}
 use Rattle.rounds.proofs.Entries.{pushed_all}
 use Rattle.starts.specs.Told.{Tells}

@@ -1,5 +1,5 @@
 -- What a search does is what the state machine does
-use Rattle.std.proofs.Common.{◌≡◌, ℕ, ◌+◌, ◌<◌, ◌≤◌, Bool, true, false, cond, eqb, List, length, Ok, Err, Result, sym, refl, ap, ◌∙◌, subst, arith}
+use Rattle.std.proofs.Common.{◌≡◌, ℕ, ◌+◌, ◌<◌, cond, eqb, List, length, Ok, Err, Result, sym, refl, ap, ◌∙◌, subst, arith}
 use Rattle.std.proofs.lemmas.Bool.{cond-true, cond-false, eq-eqb, ne_eqb}
 use Rattle.bounds.specs.declared.refusal.Refusal.{Refusal}
 use Rattle.bounds.specs.declared.refusal.Refusal.TheVariants as refused
@@ -8,13 +8,13 @@ use Rattle.entries.specs.declared.entry.Entry.{Entry}
 use Rattle.rounds.specs.declared.replies.Phase.{Phase}
 use Rattle.rounds.specs.declared.replies.Phase.TheVariants.{Open, Closed, Stopped, Unfit}
 use Rattle.rounds.specs.Rounds.{Entry as Row, Turn, round}
-use Rattle.rounds.specs.Rounds.Turn.{done, full, range}
-use Rattle.rounds.specs.Searches.{Search, Reply, Step, step, ended}
+use Rattle.rounds.specs.Rounds.Turn.{done}
+use Rattle.rounds.specs.Searches.{step, ended}
 use Rattle.rounds.specs.Searches.Call.{widen}
 use Rattle.rounds.specs.Searches.Reply.{widened}
 use Rattle.distances.specs.Rows.{rows}
-use Rattle.distances.specs.Turns.{Ends, Ready, Agrees, Turned, RoundSays}
-use Rattle.distances.specs.Searching.{view, widen_reply, Fit, Stepped, AdvanceSays, WidenSays}
+use Rattle.distances.specs.Turns.{Ends, RoundSays}
+use Rattle.distances.specs.Searching.{view, widen_reply, Stepped, AdvanceSays, WidenSays}
 use Rattle.distances.proofs.Covering.{many_rows}
 
 -- a refused round

@@ -1,5 +1,5 @@
 -- A round over a store, part by part
-use Rattle.std.proofs.Common.{◌≡◌, ℕ, zero, suc, ◌+◌, ◌-◌, ◌<◌, ◌≤◌, Bool, true, false, cond, ◌&&◌, eqb, leb, List, [], ◌∷◌, ◌++◌, map, length, get_or, drop, Ok, Err, Option, Result, sym, refl, ap, ◌∙◌, subst, arith}
+use Rattle.std.proofs.Common.{◌≡◌, ℕ, suc, ◌+◌, ◌-◌, ◌<◌, ◌≤◌, false, ◌&&◌, eqb, leb, List, [], ◌∷◌, ◌++◌, map, length, get_or, drop, Ok, Err, Option, Result, sym, refl, ap, ◌∙◌, subst, arith}
 use Rattle.std.specs.List.{flat_map}
 use Rattle.std.proofs.lemmas.List.{at_drop_more, at_drop_all}
 use Rattle.std.proofs.lemmas.Bool.{cond-true, cond-false, and_from, and_left, and_right, eq-eqb, ne_eqb, le-leb, lt-leb}
@@ -11,19 +11,17 @@ use Rattle.plans.specs.declared.rows.Move.{Move}
 use Rattle.plans.specs.declared.rows.Outcome.{Outcome}
 use Rattle.plans.specs.declared.rows.Goal.{Goal}
 use Rattle.plans.specs.Items.{Names, Item}
-use Rattle.plans.specs.Meaning.{PlanMeaning, WellFormed, OutcomeOf, goal_at, outcome_at, move_at, no_goal, no_outcome}
+use Rattle.plans.specs.Meaning.{PlanMeaning, WellFormed, OutcomeOf, goal_at, outcome_at, no_goal, no_outcome}
 use Rattle.plans.specs.RowLists.{no_move}
 use Rattle.entries.specs.declared.entry.Entry.{Entry}
 use Rattle.rounds.specs.Codes.{Remains}
 use Rattle.rounds.specs.Codes.Remains.{kept, empty, beyond}
-use Rattle.rounds.specs.Held.{Fits, Exact}
+use Rattle.rounds.specs.Held.{Exact}
 use Rattle.rounds.specs.Rounds.{Entry as Row, no_entry, entry_at, move_of, Start, goal_zone, step_zone, goal_start, step_start, across, after, starts, Turn, onward, tried, tries, round}
-use Rattle.rounds.specs.Rounds.Turn.{done, full, range}
 use Rattle.rounds.specs.Stands.{EntryOf}
-use Rattle.rounds.proofs.Laws.{Laws, laws}
+use Rattle.rounds.proofs.Laws.{laws}
 use Rattle.rounds.proofs.Zones.{Arriving, Crossing, goal_exact, step_exact}
 use Rattle.rounds.proofs.Loops.{tries_append, tries_none, tries_one, tries_begins}
-use Rattle.starts.specs.Told.{Tells}
 use Rattle.starts.specs.Starts.{GoalOf, StepOf, GoalTells, StepTells}
 use Rattle.starts.proofs.Starting.{item_is}
 use Rattle.distances.specs.Rows.{row, rows}

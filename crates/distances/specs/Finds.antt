@@ -1,5 +1,5 @@
 -- The first entry that holds a state.
-use Rattle.std.specs.Prelude.{◌≡◌, ℕ, ◌<◌, Bool, true, cond, ◌&&◌, List, length, Some, None, Option, ◌==◌}
+use Rattle.std.specs.Prelude.{◌≡◌, ℕ, ◌<◌, Bool, cond, ◌&&◌, List, length, Some, None, Option, ◌==◌}
 use Rattle.bounds.specs.Bounds.{UpperBound}
 use Rattle.zones.specs.declared.codes.Code.{Code}
 use Rattle.zones.specs.States.{Good, value_of}

@@ -1,5 +1,5 @@
 -- The entries of a store as a round has them.
-use Rattle.std.specs.Prelude.{◌≡◌, ℕ, ◌<◌, List, map, length}
+use Rattle.std.specs.Prelude.{ℕ, ◌<◌, List, map, length}
 use Rattle.bounds.specs.Bounds.{UpperBound}
 use Rattle.entries.specs.declared.entry.Entry.{Entry}
 use Rattle.rounds.specs.Calls.{ZoneOf}

@@ -4,13 +4,13 @@ use Rattle.bounds.specs.declared.refusal.Refusal.{Refusal}
 use Rattle.plans.specs.Meaning.{PlanMeaning}
 use Rattle.entries.specs.declared.entry.Entry.{Entry}
 use Rattle.rounds.specs.declared.replies.Phase.{Phase}
-use Rattle.rounds.specs.declared.replies.Phase.TheVariants.{Open, Closed, Stopped, Unfit}
+use Rattle.rounds.specs.declared.replies.Phase.TheVariants.{Unfit}
 use Rattle.rounds.specs.declared.replies.Answer.{Answer}
 use Rattle.rounds.specs.Rounds.{Entry as Row, round}
 use Rattle.rounds.specs.Searches.{Search, Reply, Step, step, ended, set_up, askable, asked, Replied}
 use Rattle.rounds.specs.Stands.{Stands}
-use Rattle.rounds.specs.Searches.Call.{widen, ask, list}
-use Rattle.rounds.specs.Searches.Reply.{widened, told, listed, refused}
+use Rattle.rounds.specs.Searches.Call.{widen, ask}
+use Rattle.rounds.specs.Searches.Reply.{widened, told, refused}
 use Rattle.distances.specs.Rows.{rows}
 use Rattle.distances.specs.Turns.{Ready, Agrees}
 

@@ -1,15 +1,15 @@
 -- A zone asks nothing of the clocks above n exactly if its bounds follow from those among the others
-use Rattle.std.proofs.Common.{◌≡◌, ℕ, zero, suc, ◌+◌, ◌*◌, ◌/◌, ◌%◌, ◌<◌, ◌≤◌, Bool, true, false, cond, eqb, ◌⊎◌, List, get_or, ℤ, pos, negsuc, ◌+ℤ◌, ◌-ℤ◌, ◌*ℤ◌, nat_abs, ◌≤ℤ◌, ◌<ℤ◌, None, Option, sym, refl, ap, ◌∙◌, subst, inl, inr, ⊎_elim, arith, eq-eqb, ne_eqb}
+use Rattle.std.proofs.Common.{◌≡◌, ℕ, ◌+◌, ◌*◌, ◌/◌, ◌%◌, ◌<◌, ◌≤◌, Bool, true, false, cond, eqb, List, get_or, ℤ, pos, negsuc, ◌+ℤ◌, ◌-ℤ◌, ◌*ℤ◌, nat_abs, ◌≤ℤ◌, None, Option, sym, refl, ap, ◌∙◌, subst, ⊎_elim, arith, eq-eqb, ne_eqb}
 use borrow.Author.Differences.{ints}
 use Rattle.std.proofs.lemmas.Bool.{cases_lt, cases_eq, cond-true, cond-false}
 use Rattle.bounds.specs.Bounds.{UpperBound, none, upto, plus, level, Meets, Tight}
 use Rattle.bounds.specs.Domains.{scales, hand_allows, hand_normal}
 use Rattle.bounds.specs.DomainLaws.{hand_lawful}
-use Rattle.bounds.specs.Laws.{times_is, times_le, plus_comm, plus_level, tight_same, tight_refl}
+use Rattle.bounds.specs.Laws.{times_is, plus_comm, plus_level, tight_same}
 use Rattle.bounds.proofs.ScaleLaws.{ScaleLaws, scale_laws}
 use Rattle.bounds.proofs.Apart.{tight_or}
 use Rattle.zones.specs.declared.codes.Code.{Code}
-use Rattle.zones.specs.Matrices.{Canon, Holds, Readings}
+use Rattle.zones.specs.Matrices.{Holds, Readings}
 use Rattle.zones.specs.Codes.{Sound, at}
 use Rattle.zones.proofs.Canon.{zero_meets}
 use Rattle.zones.proofs.Whole.{a_reading, no_less}

@@ -1,10 +1,9 @@
 -- The fields of a line
-use Rattle.std.proofs.Common.{◌≡◌, ℕ, suc, ◌+◌, ◌-◌, ◌/◌, ◌%◌, ◌^◌, ◌<◌, ◌≤◌, min, true, false, not, eqb, List, [], ◌∷◌, ◌++◌, length, get_or, take, replicate, Some, None, decimal, Option, sym, refl, ap, ◌∙◌, subst, arith, eq-eqb}
+use Rattle.std.proofs.Common.{◌≡◌, ℕ, suc, ◌+◌, ◌-◌, ◌/◌, ◌%◌, ◌^◌, ◌<◌, true, false, not, eqb, List, [], ◌∷◌, ◌++◌, length, get_or, take, replicate, Some, None, decimal, Option, sym, refl, ap, ◌∙◌, subst, arith, eq-eqb}
 use Rattle.std.proofs.lemmas.List.{take_at}
-use Rattle.std.proofs.lemmas.Bool.{and_from, and_parts}
-use Rattle.bounds.specs.Bounds.{UpperBound}
+use Rattle.std.proofs.lemmas.Bool.{and_parts}
 use Rattle.bounds.specs.Sums.{bound_of}
-use Rattle.zones.specs.Codes.{Sound, at}
+use Rattle.zones.specs.Codes.{at}
 use Rattle.zones.proofs.Props.{sound}
 use Rattle.byte_text.specs.Numerals.{number_to}
 use Rattle.byte_text.specs.Parts.{Place, parted, head_place, tail_places, within, up_to}

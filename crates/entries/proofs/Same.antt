@@ -1,16 +1,16 @@
 -- Zones with equal bounds are the same
-use Rattle.std.proofs.Common.{◌≡◌, ℕ, zero, suc, ◌+◌, ◌*◌, ◌/◌, ◌%◌, ◌<◌, ◌≤◌, ◌⊎◌, List, [], ◌∷◌, length, get_or, Some, None, Option, sym, refl, ap, ◌∙◌, subst, inl, inr, ⊎_elim, arith}
+use Rattle.std.proofs.Common.{◌≡◌, ℕ, suc, ◌+◌, ◌*◌, ◌/◌, ◌%◌, ◌<◌, ◌≤◌, List, [], ◌∷◌, length, get_or, None, Option, sym, refl, ap, ◌∙◌, ⊎_elim, arith}
 use mathlib.Core.Logic.{∥∥₁_prop}
 use mathlib.Core.HLevel.{is_prop→PathP}
 use Rattle.std.proofs.lemmas.Bool.{cases_lt, cases_eq}
 use Rattle.bounds.specs.declared.bound.Bound.{Bound}
-use Rattle.bounds.specs.Bounds.{UpperBound, none, level}
+use Rattle.bounds.specs.Bounds.{UpperBound}
 use Rattle.bounds.specs.Sums.{bound_of}
 use Rattle.zones.specs.declared.codes.Code.{Code}
 use Rattle.zones.specs.declared.zone.Zone.{Zone}
 use Rattle.zones.specs.Codes.{Sound, at, decode, code_of}
 use Rattle.zones.specs.Given.{Given}
-use Rattle.zones.proofs.Props.{sound, sound_prop}
+use Rattle.zones.proofs.Props.{sound}
 use Rattle.zones.proofs.Givens.{same_code}
 use Rattle.entries.specs.declared.entry.Entry.{Entry}
 use Rattle.entries.specs.Entries.{IsEntry, whole, bounds_at}

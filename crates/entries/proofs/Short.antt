@@ -1,17 +1,16 @@
 -- No line is longer than a line may be
-use Rattle.std.proofs.Common.{◌≡◌, ℕ, zero, suc, ◌+◌, ◌*◌, ◌/◌, ◌%◌, ◌^◌, ◌<◌, ◌≤◌, Bool, true, false, cond, ◌⊎◌, List, [], ◌∷◌, ◌++◌, length, ℤ, pos, negsuc, ◌<ℤ◌, decimal, sym, refl, ap, ◌∙◌, subst, inl, inr, ⊎_elim, arith, lit<, length-append}
+use Rattle.std.proofs.Common.{◌≡◌, ℕ, zero, suc, ◌+◌, ◌*◌, ◌/◌, ◌%◌, ◌^◌, ◌<◌, ◌≤◌, Bool, true, false, cond, ◌⊎◌, List, length, ℤ, pos, negsuc, ◌<ℤ◌, refl, ap, subst, inl, inr, ⊎_elim, arith, length-append}
 use borrow.Author.Differences.{ints}
 use lib.Signed.{mag}
-use Rattle.std.specs.Fmt.{signed_decimal}
 use Rattle.std.proofs.lemmas.Bool.{cases_lt}
 use Rattle.std.proofs.lemmas.Fmt.{length_signed_le, length-decimal-le}
 use Rattle.bounds.specs.Bounds.{UpperBound, none, upto}
 use Rattle.zones.specs.declared.codes.Code.{Code}
-use Rattle.zones.specs.Codes.{Sound, Near, at, decode}
+use Rattle.zones.specs.Codes.{Sound, at}
 use Rattle.zones.specs.Cuts.{Far}
 use Rattle.zones.proofs.Givens.{near_not_far}
 use Rattle.entries.specs.declared.entry.Entry.{Entry}
-use Rattle.entries.specs.Lines.{shown, seen, item, equals, items, some, commas, line}
+use Rattle.entries.specs.Lines.{shown, seen, items, some, commas, line}
 use Rattle.entries.specs.Adding.{placed}
 use Rattle.entries.proofs.Items.{items_none, commas_more, length_line}
 

@@ -1,21 +1,19 @@
 -- What is written is read back
-use Rattle.std.proofs.Common.{◌≡◌, ℕ, zero, suc, ◌+◌, ◌-◌, ◌*◌, ◌/◌, ◌%◌, ◌^◌, ◌<◌, ◌≤◌, Bool, true, false, cond, not, ◌&&◌, eqb, ltb, leb, ◌≢◌, ◌⊎◌, List, [], ◌∷◌, ◌++◌, length, get_or, take, drop, set, replicate, ℤ, pos, negsuc, neg_ℤ, Some, None, decimal, Option, sym, refl, ap, ◌∙◌, subst, inl, inr, ⊎_elim, append_assoc, append-nil, add-one, arith, lit<, length-append, length-set, get_or-set_other, get_or-set_same, rules, eq-eqb, ne_eqb}
-use borrow.Author.Differences.{ints}
+use Rattle.std.proofs.Common.{◌≡◌, ℕ, zero, suc, ◌+◌, ◌-◌, ◌*◌, ◌/◌, ◌%◌, ◌^◌, ◌<◌, ◌≤◌, Bool, true, false, not, ◌&&◌, eqb, leb, ◌≢◌, List, [], ◌∷◌, ◌++◌, length, get_or, drop, set, replicate, ℤ, pos, negsuc, Some, None, decimal, Option, sym, refl, ap, ◌∙◌, subst, ⊎_elim, append-nil, arith, length-set, get_or-set_other, get_or-set_same, ne_eqb}
 use lib.ListN.{length-replicate}
 use lib.Signed.{mag}
 use Rattle.std.specs.Fmt.{signed_decimal}
 use Rattle.std.specs.Str.{all_ascii_digits}
 use Rattle.std.specs.Char.{is_ascii_digit}
 use Rattle.std.proofs.lemmas.Bool.Decides.{nat_tests}
-use Rattle.std.proofs.lemmas.Bool.{and_parts, and_from, cond-true, cond-false, cases_eq, cases_lt}
+use Rattle.std.proofs.lemmas.Bool.{and_parts, and_from, cond-true, cond-false, cases_eq}
 use Rattle.std.proofs.lemmas.Fmt.{decimal_nonempty}
 use Rattle.bounds.specs.declared.bound.Bound.{Bound}
 use Rattle.bounds.specs.Bounds.{UpperBound, none, upto}
 use Rattle.bounds.specs.Sums.{bound_of}
-use Rattle.byte_text.specs.Numerals.{number_to}
 use Rattle.byte_text.specs.Parts.{Place, parted}
-use Rattle.byte_text.proofs.Spelling.{digits_all, number_back, lacks, lacks_append, lacks_decimal, lacks_digits, parted_mark, parted_end}
-use Rattle.entries.specs.Lines.{seen, equals, item, item_at, items, some, commas}
+use Rattle.byte_text.proofs.Spelling.{digits_all, number_back, lacks, lacks_append, lacks_decimal, parted_mark, parted_end}
+use Rattle.entries.specs.Lines.{seen, equals, item, item_at, items, commas}
 use Rattle.entries.specs.Reading.{above, below, signed_of, clock, with_number, before_number, item_of, noted, bounds_from}
 use Rattle.entries.proofs.Short.{Reach, seen_reach}
 use Rattle.entries.proofs.Items.{items_more, items_none}

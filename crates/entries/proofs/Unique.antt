@@ -1,24 +1,20 @@
 -- Entries are told apart by their lines
-use Rattle.std.proofs.Common.{◌≡◌, ℕ, zero, suc, ◌+◌, ◌-◌, ◌*◌, ◌/◌, ◌%◌, ◌^◌, ◌<◌, ◌≤◌, true, List, [], ◌∷◌, ◌++◌, length, get_or, take, drop, replicate, Some, None, decimal, Option, sym, refl, ap, ◌∙◌, subst, append_assoc, arith, length-append}
+use Rattle.std.proofs.Common.{◌≡◌, ℕ, ◌+◌, ◌*◌, ◌/◌, ◌%◌, ◌<◌, ◌≤◌, true, List, [], ◌∷◌, ◌++◌, length, take, drop, sym, refl, ap, ◌∙◌, append_assoc, arith, length-append}
 use Rattle.std.proofs.lemmas.List.{take_at, drop_at}
 use Rattle.std.proofs.lemmas.Fmt.{decimal_injective}
-use Rattle.bounds.specs.Bounds.{UpperBound}
-use Rattle.bounds.specs.Sums.{bound_of}
-use Rattle.zones.specs.declared.codes.Code.{Code}
 use Rattle.zones.specs.Codes.{at, decode, code_of}
 use Rattle.zones.proofs.Props.{sound}
 use Rattle.zones.proofs.Givens.{same_code}
 use Rattle.byte_text.specs.Parts.{Place, parted, up_to}
 use Rattle.byte_text.proofs.Spelling.{lacks}
 use Rattle.entries.specs.declared.entry.Entry.{Entry}
-use Rattle.entries.specs.Entries.{IsEntry, whole}
+use Rattle.entries.specs.Entries.{IsEntry}
 use Rattle.entries.specs.Lines.{seen, items, commas, body, line}
 use Rattle.entries.specs.Lists.{lines, AllEntries}
-use Rattle.entries.specs.Reading.{bounds_from}
 use Rattle.entries.proofs.Items.{seen_shown, length_line}
 use Rattle.entries.proofs.Asks.{asks_free}
 use Rattle.entries.proofs.Same.{whole_by, same_codes, same_zone, same_entry}
-use Rattle.entries.proofs.Drafts.{Four, fields, all_back, body_lacks, body_front, up_to_mark}
+use Rattle.entries.proofs.Drafts.{fields, all_back, body_lacks, up_to_mark}
 
 places_same : (p0 p1 p2 p3 q0 q1 q2 q3 : Place) → ◌≡◌ {A = List Place} (p0 ∷ p1 ∷ p2 ∷ p3 ∷ []) (q0 ∷ q1 ∷ q2 ∷ q3 ∷ []) → (p1 ≡ q1) × (p2 ≡ q2) × (p3 ≡ q3)
 places_same p0 p1 p2 p3 q0 q1 q2 q3 e = (cc, cc, cc)

@@ -1,5 +1,5 @@
 -- Entries, and what makes one an entry for n clocks.
-use Rattle.std.specs.Prelude.{◌≡◌, ℕ, ◌+◌, ◌*◌, ◌^◌, ◌<◌, ◌≤◌, Bool, true, false, cond, List, length, ℤ, None, Option, ◌==◌, nat_le, slice_index_or}
+use Rattle.std.specs.Prelude.{◌≡◌, ℕ, ◌+◌, ◌*◌, ◌^◌, ◌<◌, ◌≤◌, cond, List, length, ℤ, None, Option, ◌==◌, nat_le, slice_index_or}
 use Rattle.bounds.specs.declared.bound.Bound.{Bound}
 use Rattle.bounds.specs.Bounds.{UpperBound, none, level}
 use Rattle.bounds.specs.Sums.{bound_of}

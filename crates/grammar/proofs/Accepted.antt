@@ -1,7 +1,6 @@
 -- The reader keeps to the grammar.
-use Rattle.std.proofs.Common.{◌≡◌, ℕ, ◌+◌, ◌≤◌, List, [], ◌∷◌, ◌++◌, map, length, replicate, Ok, Err, Result, sym, refl, ap, ◌∙◌, subst, arith, length-append}
+use Rattle.std.proofs.Common.{◌≡◌, ℕ, ◌+◌, ◌≤◌, List, [], ◌∷◌, map, length, replicate, Ok, Err, Result, sym, refl, ap, ◌∙◌, subst, arith, length-append}
 use lib.ListN.{length-replicate}
-use Rattle.plans.specs.declared.rows.Outcome.{Outcome}
 use Rattle.plans.specs.Meaning.{no_position, no_outcome, no_goal}
 use Rattle.plans.specs.RowLists.{Kept, taken, emptied, no_move}
 use Rattle.texts.specs.declared.header.Header.{Header}
@@ -9,12 +8,12 @@ use Rattle.texts.specs.Faults.{Fault}
 use Rattle.texts.specs.PlanRows.{Tables}
 use Rattle.texts.specs.Texts.{Ending, read_text}
 use Rattle.grammar.specs.Written.{PlanText, MoveText, FinePlan, Writes, lines_of, spelled, outcome_count, position_row, move_row, outcome_row, outcome_rows, goal_row}
-use Rattle.grammar.specs.Grammar.{Supplied, Gives, Written, KeepsTo, Alike, OnePlan}
+use Rattle.grammar.specs.Grammar.{Supplied, Gives, Written, KeepsTo, OnePlan}
 use Rattle.grammar.proofs.Standing.{head, accepted}
 use Rattle.grammar.proofs.RowsPut.{puts, taken_puts, length_map}
-use Rattle.grammar.proofs.TextRuns.{good, Led, only_led, all_led}
+use Rattle.grammar.proofs.TextRuns.{good, only_led, all_led}
 use Rattle.grammar.proofs.ShapeLeads.{filled, plan_leads}
-use Rattle.grammar.proofs.ShapeFound.{PlanShape, plan_shape}
+use Rattle.grammar.proofs.ShapeFound.{plan_shape}
 
 pub count_rows : (k : ℕ) (ms : List MoveText) → length (outcome_rows k ms) ≡ outcome_count ms
 count_rows k [] = refl

@@ -1,36 +1,29 @@
 -- A line that says something is read as saying it.
-use Rattle.std.proofs.Common.{◌≡◌, ℕ, suc, ◌+◌, ◌-◌, ◌*◌, ◌^◌, ◌<◌, ◌≤◌, Bool, true, false, cond, not, ◌&&◌, ◌||◌, eqb, ltb, leb, ◌⊎◌, List, [], ◌∷◌, ◌++◌, length, get_or, Some, None, Ok, Err, decimal, Option, Result, sym, refl, ap, ◌∙◌, subst, inl, inr, ⊎_elim, arith, lit<, le-leb}
-use Rattle.std.proofs.lemmas.Bool.Decides.{nat_tests}
-use Rattle.std.proofs.lemmas.Slice.Eq.{bytes_eq-Decides}
-use Rattle.std.proofs.lemmas.Bool.{not-true, and_from, true≢false}
-use Rattle.std.specs.Str.{bytes_eq}
+use Rattle.std.proofs.Common.{◌≡◌, ℕ, suc, ◌+◌, ◌^◌, ◌<◌, ◌≤◌, Bool, true, cond, leb, List, [], ◌∷◌, ◌++◌, length, Ok, decimal, Result, refl, ap, ◌∙◌, arith, lit<, le-leb}
+use Rattle.std.proofs.lemmas.Bool.{not-true, and_from}
 use Rattle.bounds.specs.declared.refusal.Refusal.{Refusal}
-use Rattle.bounds.specs.declared.refusal.Refusal.TheVariants.{Line, Order, Number, Name, Chance, Rows}
+use Rattle.bounds.specs.declared.refusal.Refusal.TheVariants.{Order, Number, Name, Chance, Rows}
 use Rattle.bounds.specs.declared.time.PlanTime.{PlanTime}
 use Rattle.bounds.specs.declared.time.PlanTime.TheVariants.{Cycle, Hand}
-use Rattle.zones.specs.declared.boxes.Side.{Side}
-use Rattle.zones.specs.declared.boxes.ClockBox.{ClockBox}
-use Rattle.byte_text.specs.Numerals.{number_to}
 use Rattle.byte_text.specs.Parts.{Place, parted, tail_places}
-use Rattle.byte_text.proofs.Spelling.{number_back, number_there, lacks, lacks_decimal, lacks_append, parted_mark, parted_end, joins, joins_parted}
-use Rattle.texts.specs.declared.words.Letter.{Letter}
+use Rattle.byte_text.proofs.Spelling.{number_back, lacks, lacks_decimal, parted_mark, parted_end}
 use Rattle.texts.specs.declared.words.Letter.TheVariants as letters
 use Rattle.texts.specs.declared.words.Phase.TheVariants as phases
-use Rattle.texts.specs.Faults.{Fault, refused, on, field_next, no_field, demanded, fields_of}
-use Rattle.texts.specs.Fields.{Shown, word, number, clocks, bounds, number_field, in_range, clocks_field, listed, clock_list}
-use Rattle.texts.specs.BoxFields.{box_field, boxed, box_of, no_sides}
-use Rattle.texts.specs.Words.{letter_of, stands_at, kind_field, time_in, number_in, box_in, clocks_in, is_outcome, hand, cycle}
-use Rattle.texts.specs.PlanRows.{Tables, has_room}
+use Rattle.texts.specs.Faults.{Fault, refused, on, field_next, demanded}
+use Rattle.texts.specs.Fields.{number, clocks, bounds, number_field, in_range, clocks_field, listed}
+use Rattle.texts.specs.BoxFields.{box_field, boxed}
+use Rattle.texts.specs.Words.{letter_of, stands_at}
+use Rattle.texts.specs.PlanRows.{has_room}
 use Rattle.texts.specs.RowReads.{position_read, move_read, outcome_read, goal_read}
 use Rattle.plans.specs.declared.rows.Position.{Position}
 use Rattle.plans.specs.declared.rows.Move.{Move}
 use Rattle.plans.specs.declared.rows.Outcome.{Outcome}
 use Rattle.plans.specs.declared.rows.Goal.{Goal}
 use Rattle.texts.specs.States.{State, Sound}
-use Rattle.texts.specs.Lines.{settled, settled_by, unsummed, time_line, position_line, move_line, outcome_line, goal_line, line_of, stepped, with_position, with_move, with_outcome, with_goal, with_rows}
-use Rattle.grammar.specs.BoxesWritten.{BoundText, spell_box, spell_clocks, OneOf, FineBound, All, tightened_by, box_by, resets_by}
-use Rattle.grammar.specs.Written.{LineText, time, position, move, outcome, goal, OutcomeText, GoalText, kind, spell, position_row, outcome_row, goal_row, FineOutcome, FineGoal}
-use Rattle.grammar.proofs.Standing.{Part, letter, InRange, room_for, summed, Stands, with}
+use Rattle.texts.specs.Lines.{settled, settled_by, unsummed, line_of, stepped, with_position, with_move, with_outcome, with_goal, with_rows}
+use Rattle.grammar.specs.BoxesWritten.{BoundText, spell_box, spell_clocks, OneOf, FineBound, All, box_by, resets_by}
+use Rattle.grammar.specs.Written.{LineText, time, position, move, outcome, goal, OutcomeText, GoalText, kind, spell, position_row, outcome_row, goal_row}
+use Rattle.grammar.proofs.Standing.{Part, summed, Stands, with}
 use Rattle.grammar.proofs.BoxSpelling.{box_all, lacks_box}
 use Rattle.grammar.proofs.ClockSpelling.{clocks_all, lacks_clocks}
 

@@ -1,7 +1,7 @@
 -- OneOf lists written and read.
-use Rattle.std.proofs.Common.{◌≡◌, ℕ, suc, ◌+◌, ◌-◌, ◌<◌, ◌≤◌, Bool, true, false, cond, not, ◌&&◌, ◌||◌, eqb, leb, List, [], ◌∷◌, ◌++◌, length, get_or, set, replicate, Some, None, Ok, Err, decimal, Option, Result, sym, refl, ap, ◌∙◌, arith, lit<}
+use Rattle.std.proofs.Common.{◌≡◌, ℕ, suc, ◌+◌, ◌-◌, ◌<◌, ◌≤◌, Bool, true, false, cond, ◌&&◌, leb, List, [], ◌∷◌, ◌++◌, length, get_or, set, replicate, Some, None, Ok, Err, decimal, Option, Result, sym, refl, ap, ◌∙◌, arith, lit<}
 use Rattle.std.proofs.lemmas.Bool.Decides.{nat_tests}
-use Rattle.std.proofs.lemmas.Bool.{cond-true, cond-false, and_parts, and_from, leb-true}
+use Rattle.std.proofs.lemmas.Bool.{cond-false, and_parts, and_from, leb-true}
 use Rattle.std.specs.Str.{all_ascii_digits}
 use Rattle.std.specs.Char.{is_ascii_digit}
 use Rattle.std.proofs.lemmas.Fmt.{decimal_nonempty}
@@ -10,7 +10,7 @@ use Rattle.bounds.specs.declared.refusal.Refusal.TheVariants.{Number, Name}
 use Rattle.byte_text.specs.Numerals.{number_to}
 use Rattle.byte_text.specs.Parts.{Place, parted}
 use Rattle.byte_text.proofs.Spelling.{digits_all, number_back, number_there, lacks, lacks_decimal, lacks_append, parted_mark, parted_end, joins, joins_parted, parted_not_empty}
-use Rattle.texts.specs.Fields.{dash, numerals, named, marked, clocks_from, clock_list}
+use Rattle.texts.specs.Fields.{dash, numerals, clocks_from, clock_list}
 use Rattle.texts.proofs.ClockSteps.{one_clock, no_clock, not_number, dash_other}
 use Rattle.grammar.specs.BoxesWritten.{commas, spell_clocks, OneOf, All, marked_by, resets_by}
 use Rattle.grammar.proofs.BoxSpelling.{apart, dash_there}

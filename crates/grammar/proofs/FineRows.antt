@@ -1,6 +1,5 @@
 -- The rows that a plan text writes pass the row check.
-use Rattle.std.proofs.Common.{◌≡◌, ℕ, zero, suc, ◌+◌, ◌-◌, ◌<◌, ◌≤◌, Bool, true, false, cond, not, ◌&&◌, ◌||◌, eqb, leb, ◌≢◌, List, [], ◌∷◌, ◌++◌, map, length, get_or, set, replicate, ℤ, pos, ◌≤ℤ◌, Some, None, Ok, Err, Option, Result, sym, refl, ap, ◌∙◌, subst, arith, length-append, length-set, get_or-set_other, get_or-set_same, eq-eqb, ne_eqb}
-use lib.Signed.{lt_z}
+use Rattle.std.proofs.Common.{◌≡◌, ℕ, zero, suc, ◌+◌, ◌-◌, ◌<◌, ◌≤◌, Bool, true, false, cond, eqb, ◌≢◌, List, [], ◌∷◌, ◌++◌, map, length, get_or, set, replicate, Some, None, Ok, Err, Option, Result, sym, refl, ap, ◌∙◌, subst, arith, length-set, get_or-set_other, get_or-set_same, eq-eqb, ne_eqb}
 use Rattle.std.proofs.lemmas.Int.{ints}
 use Rattle.std.proofs.lemmas.Bool.{cond-true, cond-false, eqb-true}
 use Rattle.bounds.specs.declared.bound.Bound.{Bound}
@@ -19,10 +18,10 @@ use Rattle.texts.specs.Faults.{Fault}
 use Rattle.texts.specs.PlanRows.{Tables}
 use Rattle.grammar.specs.Grammar.{KeepsTo}
 use Rattle.grammar.specs.Tables.{PassesCheck}
-use Rattle.plans.specs.RowChecks.{RowsFine, Sized, Counts}
+use Rattle.plans.specs.RowChecks.{RowsFine}
 use Rattle.texts.specs.BoxFields.{tighter, tightest, side_with, no_sides, tightened}
-use Rattle.grammar.specs.BoxesWritten.{BoundText, OneOf, FineBound, All, held, tightened_by, box_by, marked_by, resets_by}
-use Rattle.grammar.specs.Written.{OutcomeText, MoveText, GoalText, PlanText, position_row, move_row, outcome_row, outcome_rows, outcome_count, goal_row, sum_of, FineOutcome, FineMove, FineGoal, FinePlan}
+use Rattle.grammar.specs.BoxesWritten.{BoundText, OneOf, FineBound, All, held, tightened_by, box_by, marked_by}
+use Rattle.grammar.specs.Written.{OutcomeText, MoveText, PlanText, position_row, move_row, outcome_row, outcome_rows, goal_row, sum_of, FineOutcome, FineMove, FineGoal, FinePlan}
 use Rattle.grammar.proofs.RowsPut.{length_map}
 use Rattle.grammar.proofs.Accepted.{count_rows}
 

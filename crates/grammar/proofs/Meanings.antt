@@ -1,18 +1,18 @@
 -- A box holds the readings that meet all its bounds, and a clock list resets the clocks that it names.
-use Rattle.std.proofs.Common.{◌≡◌, ℕ, suc, ◌+◌, ◌-◌, ◌<◌, ◌≤◌, Bool, true, false, cond, not, ◌&&◌, T, eqb, ◌≢◌, ◌⊎◌, List, [], ◌∷◌, length, get_or, set, replicate, ℤ, pos, ◌-ℤ◌, neg_ℤ, ◌≤ℤ◌, ◌<ℤ◌, Some, None, Option, sym, refl, ap, ◌∙◌, subst, inl, inr, ⊎_elim, arith, length-set, get_or-set_other, get_or-set_same, eq-eqb}
-use lib.Signed.{lt_z, lt_z_yes, lt_z_no}
+use Rattle.std.proofs.Common.{◌≡◌, ℕ, suc, ◌-◌, ◌<◌, ◌≤◌, Bool, true, false, cond, not, ◌&&◌, eqb, ◌⊎◌, List, [], ◌∷◌, length, get_or, set, replicate, ℤ, pos, ◌-ℤ◌, neg_ℤ, Some, None, Option, sym, refl, ap, ◌∙◌, subst, inl, inr, ⊎_elim, arith, length-set, get_or-set_other, get_or-set_same, eq-eqb}
+use lib.Signed.{lt_z}
 use Rattle.std.proofs.lemmas.Int.{ints}
 use Rattle.std.proofs.lemmas.Bool.{eqb-true}
 use Rattle.bounds.specs.declared.bound.Bound.{Bound}
-use Rattle.bounds.specs.Bounds.{UpperBound, none, upto, Meets, Tight, bit}
+use Rattle.bounds.specs.Bounds.{upto, Meets, Tight}
 use Rattle.bounds.specs.Laws.{meets_looser}
 use Rattle.bounds.specs.Logic.{Iff}
 use Rattle.bounds.specs.Sums.{bound_of}
 use Rattle.zones.specs.declared.boxes.Side.{Side}
 use Rattle.zones.specs.Boxes.{no_side, turned}
-use Rattle.plans.specs.Boxes.{InBox, InSide}
+use Rattle.plans.specs.Boxes.{InSide}
 use Rattle.texts.specs.BoxFields.{tighter, tightest, side_with, no_sides, tightened}
-use Rattle.grammar.specs.BoxesWritten.{BoundText, OneOf, FineBound, All, held, tightened_by, box_by, marked_by, resets_by}
+use Rattle.grammar.specs.BoxesWritten.{BoundText, OneOf, FineBound, All, held, tightened_by, marked_by}
 use Rattle.grammar.specs.Meant.{MeetsBound, BoxMeans, Named, ClocksMean}
 use Rattle.grammar.proofs.FineRows.{same_place}
 

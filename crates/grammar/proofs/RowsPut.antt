@@ -1,8 +1,8 @@
 -- Rows put one after the other.
-use Rattle.std.proofs.Common.{◌≡◌, ℕ, zero, suc, ◌+◌, ◌-◌, ◌<◌, ◌≤◌, List, [], ◌∷◌, ◌++◌, map, length, get_or, take, set, sym, refl, ap, ◌∙◌, append_assoc, append-nil, add_assoc, arith, length-append, length-set, get_or-set_same}
+use Rattle.std.proofs.Common.{◌≡◌, ℕ, zero, suc, ◌+◌, ◌-◌, ◌<◌, ◌≤◌, List, [], ◌∷◌, ◌++◌, map, length, get_or, take, set, sym, refl, ap, ◌∙◌, append_assoc, append-nil, add_assoc, arith, length-set, get_or-set_same}
 use Rattle.plans.specs.declared.rows.Move.{Move}
 use Rattle.plans.specs.RowLists.{Kept, taken, put, move_row, no_move, raised}
-use Rattle.texts.specs.PlanRows.{open_sum, raised_open}
+use Rattle.texts.specs.PlanRows.{raised_open}
 
 abbrev pub puts : {R : Type 0} → Kept R → List R → Kept R
 puts k [] = k

@@ -1,9 +1,8 @@
 -- Lines that lead to a whole plan are the lines of a plan, in their order.
-use Rattle.std.proofs.Common.{◌≡◌, ℕ, suc, ◌+◌, ◌-◌, ◌<◌, ◌≤◌, Bool, true, false, cond, not, ◌&&◌, eqb, ltb, List, [], ◌∷◌, ◌++◌, map, length, sym, refl, ap, ◌∙◌, subst, append_assoc, arith, length-set}
+use Rattle.std.proofs.Common.{◌≡◌, ℕ, suc, ◌+◌, ◌-◌, ◌<◌, ◌≤◌, true, false, not, eqb, List, [], ◌∷◌, ◌++◌, map, length, sym, refl, ap, ◌∙◌, subst, append_assoc, arith, length-set}
 use Rattle.std.proofs.lemmas.Bool.Decides.{nat_tests}
 use Rattle.std.proofs.lemmas.Bool.{ltb-true}
 use Rattle.bounds.specs.declared.time.PlanTime.{PlanTime}
-use Rattle.bounds.specs.declared.time.PlanTime.TheVariants.{Cycle}
 use Rattle.plans.specs.declared.rows.Position.{Position}
 use Rattle.plans.specs.declared.rows.Move.{Move}
 use Rattle.plans.specs.declared.rows.Outcome.{Outcome}
@@ -13,10 +12,10 @@ use Rattle.plans.specs.RowLists.{move_row as held-row}
 use Rattle.texts.specs.declared.words.Phase.TheVariants as phases
 use Rattle.texts.specs.PlanRows.{Tables, open_sum, raised_open, none_taken}
 use Rattle.texts.proofs.StateFacts.{opens, raises, room_parts}
-use Rattle.grammar.specs.BoxesWritten.{BoundText, OneOf, FineBound, All, box_by}
+use Rattle.grammar.specs.BoxesWritten.{BoundText, FineBound, All, box_by}
 use Rattle.grammar.specs.Written.{LineText, time, position, move, outcome, goal, OutcomeText, MoveText, GoalText, PlanText, move_lines, lines_of, position_row, outcome_row, outcome_count, goal_row, sum_of, FineOutcome, FineMove, FineGoal, FinePlan}
 use Rattle.grammar.specs.Grammar.{Supplied}
-use Rattle.grammar.proofs.Standing.{Part, summed, Stands, with, Leads, Whole, empty}
+use Rattle.grammar.proofs.Standing.{Part, summed, Leads, Whole, empty}
 use Rattle.grammar.proofs.ShapeLeads.{at}
 
 -- one more row fits, and then so many

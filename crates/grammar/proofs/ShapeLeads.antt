@@ -1,8 +1,7 @@
 -- The lines of a plan, in their order, lead to it.
-use Rattle.std.proofs.Common.{◌≡◌, ℕ, suc, ◌+◌, ◌-◌, ◌<◌, ◌≤◌, Bool, true, false, not, ◌&&◌, eqb, ltb, List, [], ◌∷◌, ◌++◌, map, length, sym, refl, ap, ◌∙◌, subst, arith, length-append, length-set, lt-ltb}
+use Rattle.std.proofs.Common.{◌≡◌, ℕ, ◌+◌, ◌<◌, ◌≤◌, true, not, eqb, List, [], ◌∷◌, ◌++◌, map, length, sym, refl, ap, ◌∙◌, subst, arith, length-set, lt-ltb}
 use Rattle.std.proofs.lemmas.Bool.{and_from, true≢false}
 use Rattle.bounds.specs.declared.time.PlanTime.{PlanTime}
-use Rattle.bounds.specs.declared.time.PlanTime.TheVariants.{Cycle}
 use Rattle.plans.specs.declared.rows.Position.{Position}
 use Rattle.plans.specs.declared.rows.Move.{Move}
 use Rattle.plans.specs.declared.rows.Outcome.{Outcome}
@@ -11,13 +10,13 @@ use Rattle.plans.specs.RowLists.{Kept, put, emptied, raised}
 use Rattle.texts.specs.declared.words.Letter.TheVariants as letters
 use Rattle.texts.specs.declared.words.Phase.{Phase}
 use Rattle.texts.specs.declared.words.Phase.TheVariants as phases
-use Rattle.texts.specs.Words.{stands_at, is_moves}
+use Rattle.texts.specs.Words.{stands_at}
 use Rattle.texts.specs.PlanRows.{Tables, has_room, open_sum, none_taken}
 use Rattle.texts.proofs.StateFacts.{opens}
-use Rattle.grammar.specs.BoxesWritten.{BoundText, OneOf, FineBound, All, box_by}
-use Rattle.grammar.specs.Written.{LineText, time, position, move, outcome, goal, OutcomeText, MoveText, GoalText, PlanText, move_lines, lines_of, position_row, move_row, outcome_row, outcome_rows, outcome_count, goal_row, sum_of, FineOutcome, FineMove, FineGoal, FinePlan}
+use Rattle.grammar.specs.BoxesWritten.{BoundText, FineBound, All, box_by}
+use Rattle.grammar.specs.Written.{LineText, position, outcome, goal, OutcomeText, MoveText, GoalText, PlanText, move_lines, lines_of, position_row, move_row, outcome_row, outcome_rows, outcome_count, goal_row, sum_of, FineOutcome, FineMove, FineGoal, FinePlan}
 use Rattle.grammar.specs.Grammar.{Supplied}
-use Rattle.grammar.proofs.Standing.{Part, summed, Stands, with, Leads, Whole, empty}
+use Rattle.grammar.proofs.Standing.{Part, summed, with, Leads, Whole, empty}
 use Rattle.grammar.proofs.RowsPut.{puts, puts_more, puts_used, puts_length, length_map, raise_put, raised_twice, raised_none}
 
 -- a plan as far as it is written down, by its parts

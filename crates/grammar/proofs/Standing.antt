@@ -1,5 +1,5 @@
 -- Line after line: what may stand after what, and the plan so far.
-use Rattle.std.proofs.Common.{◌≡◌, ℕ, ◌≤◌, Bool, true, false, not, ◌&&◌, eqb, List, [], ◌∷◌, Ok}
+use Rattle.std.proofs.Common.{◌≡◌, ℕ, Bool, true, false, not, ◌&&◌, eqb, List, [], ◌∷◌, Ok}
 use Rattle.bounds.specs.declared.time.PlanTime.{PlanTime}
 use Rattle.bounds.specs.declared.time.PlanTime.TheVariants.{Cycle}
 use Rattle.texts.specs.declared.header.Header.{Header}
@@ -11,7 +11,7 @@ use Rattle.texts.specs.Words.{is_moves, is_outcome, stands_at}
 use Rattle.texts.specs.PlanRows.{Tables, has_room, open_sum}
 use Rattle.texts.specs.Lines.{with_position, with_move, with_outcome, with_goal}
 use Rattle.texts.specs.Texts.{Ending}
-use Rattle.grammar.specs.BoxesWritten.{BoundText, OneOf, FineBound, All, box_by, resets_by}
+use Rattle.grammar.specs.BoxesWritten.{OneOf, FineBound, All, box_by}
 use Rattle.grammar.specs.Written.{LineText, time, position, move, outcome, goal, position_row, outcome_row, goal_row, FineOutcome, FineGoal}
 
 -- a plan as far as it is written down

@@ -4,7 +4,6 @@ use Rattle.plans.specs.RowLists.{taken}
 use Rattle.texts.specs.declared.header.Header.{Header}
 use Rattle.texts.specs.Faults.{Fault}
 use Rattle.texts.specs.PlanRows.{Tables}
-use Rattle.texts.specs.Texts.{read_text}
 use Rattle.grammar.specs.Written.{PlanText, Writes, outcome_count, position_row, move_row, outcome_rows, goal_row}
 
 -- there are rows enough for the plan

@@ -1,5 +1,5 @@
 -- What a box and a clock list mean, from what is written.
-use Rattle.std.specs.Prelude.{◌≡◌, ℕ, suc, ◌<◌, ◌≤◌, true, false, ◌⊎◌, List, [], ◌∷◌, slice_index_or}
+use Rattle.std.specs.Prelude.{◌≡◌, ℕ, suc, ◌≤◌, true, false, ◌⊎◌, List, [], ◌∷◌, slice_index_or}
 use Rattle.bounds.specs.Logic.{Iff}
 use Rattle.zones.specs.Boxes.{no_side}
 use Rattle.plans.specs.Boxes.{InBox, InSide}

@@ -1,5 +1,5 @@
 -- A stack of both layers, from the laws of each over runs
-use Rattle.std.proofs.Common.{◌≡◌, ℕ, suc, ◌*◌, ◌<◌, List, sym, refl, ap, ◌∙◌, subst, mul-zero, add-one, arith}
+use Rattle.std.proofs.Common.{◌≡◌, ℕ, suc, ◌*◌, List, sym, refl, ap, ◌∙◌, subst, mul-zero, add-one, arith}
 use Rattle.zones.specs.declared.boxes.ClockBox.{ClockBox}
 use Rattle.plans.specs.Meaning.{PlanMeaning, WellFormed}
 use Rattle.layers.specs.Restrictions.{restricted, Stays}

@@ -1,5 +1,5 @@
 -- Runs under a deadline
-use Rattle.std.proofs.Common.{◌≡◌, ℕ, zero, suc, ◌+◌, ◌-◌, ◌*◌, ◌<◌, ◌≤◌, true, cond, ◌&&◌, ◌≢◌, List, [], ◌∷◌, ◌++◌, length, get_or, pos, Some, None, Option, sym, refl, ap, ◌∙◌, subst, inl, inr, mul-zero, add-one, arith, get_or-set_other, get_or-set_same, lt-ltb}
+use Rattle.std.proofs.Common.{◌≡◌, ℕ, zero, suc, ◌+◌, ◌*◌, ◌<◌, ◌≤◌, true, cond, ◌&&◌, ◌≢◌, List, [], ◌∷◌, ◌++◌, length, get_or, pos, Some, None, Option, sym, refl, ap, ◌∙◌, subst, inl, inr, mul-zero, add-one, arith, get_or-set_other, get_or-set_same, lt-ltb}
 use mathlib.Core.Path.{fun_ext}
 use mathlib.Core.Logic.{∥∥₁_map}
 use borrow.Author.Differences.{ints}

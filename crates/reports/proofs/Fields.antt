@@ -1,5 +1,5 @@
 -- A line put together part by part
-use Rattle.std.proofs.Common.{◌≡◌, ℕ, ◌+◌, List, [], ◌∷◌, ◌++◌, length, ap, ◌∙◌, append_assoc, length-append}
+use Rattle.std.proofs.Common.{◌≡◌, ℕ, ◌+◌, List, [], ◌++◌, length, ap, ◌∙◌, append_assoc, length-append}
 
 pub longer : (before after ds : List ℕ) → after ≡ before ++ ds → length after ≡ length before + length ds
 longer before after ds e = ap length e ∙ length-append before ds

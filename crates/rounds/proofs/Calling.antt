@@ -1,16 +1,16 @@
 -- `all`, `back`, `undo`, `within` and `holds`, as functions on codes, say what the calls of a zone say
-use Rattle.std.proofs.Common.{◌≡◌, ℕ, zero, suc, ◌+◌, ◌*◌, ◌/◌, ◌%◌, ◌<◌, ◌≤◌, Bool, true, false, cond, ◌&&◌, ◌||◌, eqb, ltb, leb, ◌⊎◌, List, length, get_or, ℤ, pos, ◌-ℤ◌, ◌≤ℤ◌, Ok, Err, Result, sym, refl, ap, ◌∙◌, subst, inl, inr, ⊎_elim, add-one, arith}
-use Rattle.std.proofs.lemmas.Bool.{cond_both, ltb-true, ltb-false, lt-ltb, leb-true, leb-false, le-leb, and_parts, and_cases, cases_Bool, both_ways}
+use Rattle.std.proofs.Common.{◌≡◌, ℕ, zero, suc, ◌+◌, ◌*◌, ◌/◌, ◌%◌, ◌<◌, ◌≤◌, Bool, true, false, cond, ◌&&◌, ◌||◌, eqb, ltb, leb, List, length, ℤ, ◌-ℤ◌, Ok, Err, Result, sym, refl, ap, ◌∙◌, subst, ⊎_elim, add-one, arith}
+use Rattle.std.proofs.lemmas.Bool.{cond_both, ltb-true, ltb-false, leb-true, leb-false, and_parts, and_cases, cases_Bool, both_ways}
 use Rattle.bounds.specs.declared.refusal.Refusal.{Refusal}
 use Rattle.bounds.specs.declared.refusal.Refusal.TheVariants as refused
-use Rattle.bounds.specs.Bounds.{UpperBound, none, upto, level, Meets}
+use Rattle.bounds.specs.Bounds.{UpperBound, Meets}
 use Rattle.bounds.proofs.ScaleLaws.{ScaleLaws}
 use Rattle.bounds.proofs.Apart.{normal_none}
 use Rattle.zones.specs.declared.zone.Cut.{Cut}
 use Rattle.zones.specs.declared.zone.Cut.TheVariants as cut
 use Rattle.zones.specs.declared.codes.Code.{Code}
-use Rattle.zones.specs.Codes.{code_of, code_cut, code_all, code_back, code_free, at, decode, Near, Sound}
-use Rattle.zones.specs.Matrices.{Holds, Readings, all_at, back_at, free_at, zero_all, undo_at, zeroed}
+use Rattle.zones.specs.Codes.{code_of, code_cut, code_all, code_back, code_free, at, decode}
+use Rattle.zones.specs.Matrices.{Holds, Readings, all_at, free_at, zero_all, zeroed}
 use Rattle.zones.specs.Cuts.{OfDomain}
 use Rattle.zones.specs.Resets.{reset, Stuck, Zeroed}
 use Rattle.zones.specs.States.{reading}
@@ -22,9 +22,8 @@ use Rattle.zones.proofs.Codings.{level_code, none_code}
 use Rattle.zones.proofs.Outcomes.{back_is, back_sound, back_kept, back_exact, held_same, undo_same, undo_is, undo_sound, undo_kept, undo_exact, within_yes, within_no}
 use Rattle.rounds.specs.Codes.{Remains, then, every, codes_to, whole, back_zone, zero_clock, zero_steps, freed, undo_zone, within_zone, meets, holds_zone}
 use Rattle.rounds.specs.Codes.Remains.{kept, empty, beyond}
-use Rattle.rounds.specs.Answers.{answered, left, ZoneCodes, Valid}
-use Rattle.rounds.specs.Unused.{Unasked}
-use Rattle.rounds.specs.Calls.{Undone, Undoes}
+use Rattle.rounds.specs.Answers.{answered, left, ZoneCodes}
+use Rattle.rounds.specs.Calls.{Undoes}
 use Rattle.rounds.proofs.Unasking.{unasked_same, free_unasked, zero_unasked}
 use Rattle.rounds.proofs.Places.{every_at, every_from, every_not, code_to, many_codes, same_zone, meets_yes, yes_meets}
 

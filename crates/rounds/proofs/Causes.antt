@@ -3,7 +3,6 @@ use Rattle.std.proofs.Common.{◌≡◌, ℕ, zero, suc, ◌+◌, ◌-◌, ◌<�
 use Rattle.std.proofs.lemmas.List.{append-nil, append_assoc}
 use Rattle.std.proofs.lemmas.Bool.{cond_both, leb-true, leb-false}
 use Rattle.zones.specs.declared.codes.Code.{Code}
-use Rattle.bounds.specs.declared.refusal.Refusal.TheVariants as refusal
 use Rattle.rounds.specs.Codes.{Remains}
 use Rattle.rounds.specs.Codes.Remains.{kept, empty, beyond}
 use Rattle.rounds.specs.Rounds.{Entry, Start, starts, Turn, onward, covering, put, offer, tried, tries, round}

@@ -1,13 +1,11 @@
 -- Routes and the entries that cover them.
 use Rattle.std.proofs.Common.{ℕ, suc, ◌+◌, ◌*◌, ◌<◌, ◌≤◌, List, sym, subst, arith}
 use mathlib.Core.Logic.{∥∥₁_elim, ∥∥₁_map, ∥∥₁_prop}
-use Rattle.bounds.specs.declared.refusal.Refusal.TheVariants as refusal
 use Rattle.plans.specs.Boxes.{scaled}
 use Rattle.plans.specs.Meaning.{PlanMeaning}
 use Rattle.plans.specs.Routes.{Waits, Run, Route}
-use Rattle.rounds.specs.Codes.{every}
 use Rattle.rounds.specs.Held.{Scale}
-use Rattle.rounds.specs.Rounds.{Entry, entry_at, round}
+use Rattle.rounds.specs.Rounds.{Entry, entry_at}
 use Rattle.rounds.specs.Stands.{Covers, AllBased, Founded, Complete}
 use Rattle.plans.specs.Routes.Run.{last, first}
 use Rattle.rounds.proofs.Readings.{held_down}

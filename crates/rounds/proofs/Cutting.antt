@@ -1,5 +1,5 @@
 -- A cut, and a cut by a box, as functions on codes, say what the calls of a zone say
-use Rattle.std.proofs.Common.{◌≡◌, ℕ, zero, suc, ◌+◌, ◌*◌, ◌/◌, ◌%◌, ◌<◌, ◌≤◌, Bool, true, false, cond, eqb, ltb, ◌⊎◌, List, length, get_or, ℤ, pos, Ok, Err, Result, sym, refl, ap, ◌∙◌, subst, inl, inr, ⊎_elim, add-one, arith}
+use Rattle.std.proofs.Common.{◌≡◌, ℕ, zero, suc, ◌+◌, ◌*◌, ◌/◌, ◌%◌, ◌<◌, ◌≤◌, Bool, cond, eqb, ltb, List, Ok, Err, Result, sym, refl, ◌∙◌, subst, ⊎_elim, add-one, arith}
 use borrow.Author.Differences.{ints}
 use Rattle.std.proofs.lemmas.Bool.{cond_both, ltb-true, ltb-false, cases_lt}
 use Rattle.bounds.specs.declared.refusal.Refusal.{Refusal}
@@ -12,9 +12,8 @@ use Rattle.zones.specs.declared.zone.Cut.TheVariants as cut
 use Rattle.zones.specs.declared.codes.Code.{Code}
 use Rattle.zones.specs.declared.boxes.Side.{Side}
 use Rattle.zones.specs.Codes.{code_of, code_plus, code_cut, at, Near, Sound}
-use Rattle.zones.specs.Matrices.{Holds}
 use Rattle.zones.specs.Cuts.{OfDomain, Beyond, Fit, CutSays}
-use Rattle.zones.specs.Boxes.{Ordinary, Plain, side_of, turned, row_of, column_of, box_bound, Upto, Boxed, SomeTo, NoneTo, FineTo, OverAt, BoxSays, BoxKept, BoxEmpty, BoxOver}
+use Rattle.zones.specs.Boxes.{Ordinary, Plain, side_of, turned, row_of, column_of, box_bound, Boxed, SomeTo, NoneTo, BoxSays, BoxKept, BoxEmpty, BoxOver}
 use Rattle.zones.proofs.CutFacts.{cut_empties, cut_overs, cut_sound, cut_keeps}
 use Rattle.zones.proofs.BoxFacts.{row_9, column_9, box_start, box_more, box_empty, box_refused, box_done, box_upto}
 use Rattle.zones.proofs.Whole.{a_state}

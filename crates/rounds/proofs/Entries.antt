@@ -1,15 +1,14 @@
 -- Lists of entries that grow at their end.
-use Rattle.std.proofs.Common.{◌≡◌, ℕ, suc, ◌+◌, ◌<◌, ◌≤◌, true, ◌&&◌, eqb, ◌⊎◌, List, [], ◌∷◌, ◌++◌, length, sym, refl, ap, ◌∙◌, subst, inl, inr, ⊎_elim, arith}
+use Rattle.std.proofs.Common.{◌≡◌, ℕ, suc, ◌<◌, ◌≤◌, true, ◌&&◌, eqb, ◌⊎◌, List, [], ◌∷◌, ◌++◌, length, sym, refl, ap, ◌∙◌, subst, inl, inr, ⊎_elim, arith}
 use mathlib.Core.Logic.{∥∥₁_map}
 use native.Mathlib.Decide.{dec_lt}
 use Rattle.std.proofs.lemmas.List.{get_or_append_left, get_or_push, length_push}
 use Rattle.std.proofs.lemmas.Bool.{and_parts, or_cases, eqb-true, false≢true}
 use Rattle.zones.specs.declared.codes.Code.{Code}
-use Rattle.bounds.specs.declared.refusal.Refusal.TheVariants as refusal
 use Rattle.plans.specs.Meaning.{PlanMeaning}
 use Rattle.rounds.specs.Codes.{within_zone}
 use Rattle.rounds.specs.Held.{Held}
-use Rattle.rounds.specs.Rounds.{Entry, no_entry, entry_at, covering, round}
+use Rattle.rounds.specs.Rounds.{Entry, no_entry, entry_at, covering}
 use Rattle.rounds.specs.Stands.{In, Covers, EntryOf, Real, Good}
 
 -- the first entries of fs are those of es, and the others are of round f

@@ -2,7 +2,6 @@
 use Rattle.std.proofs.Common.{◌≡◌, ℕ, ◌*◌, ◌≤◌, true, sym, subst, one-mul, arith}
 use mathlib.Core.Logic.{∥∥₁_elim, ∥∥₁_map}
 use Rattle.zones.specs.declared.boxes.ClockBox.{ClockBox}
-use Rattle.bounds.specs.declared.refusal.Refusal.TheVariants as refusal
 use Rattle.plans.specs.Boxes.{InBox, later, scaled}
 use Rattle.plans.specs.Meaning.{PlanMeaning}
 use Rattle.rounds.specs.Codes.{Remains, then, back_zone}

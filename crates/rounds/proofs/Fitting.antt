@@ -1,8 +1,7 @@
 -- What a round tries is an entry for every store of the plan's clocks
-use Rattle.std.proofs.Common.{◌≡◌, ℕ, zero, suc, ◌<◌, ◌≤◌, Bool, true, cond, ◌&&◌, eqb, leb, List, [], ◌∷◌, map, length, get_or, subst, arith}
+use Rattle.std.proofs.Common.{ℕ, zero, suc, ◌<◌, ◌&&◌, eqb, leb, List, [], ◌∷◌, length, subst, arith}
 use Rattle.std.specs.List.{flat_map}
 use Rattle.std.proofs.lemmas.Bool.{cond_both}
-use Rattle.zones.specs.declared.codes.Code.{Code}
 use Rattle.plans.specs.Items.{Names}
 use Rattle.plans.specs.Meaning.{PlanMeaning, outcome_at, goal_at, no_outcome, no_goal}
 use Rattle.rounds.specs.Codes.{Remains}

@@ -1,7 +1,7 @@
 -- The calls of a zone, given by functions on codes
 use Rattle.std.proofs.Common.{ℕ, Bool}
 use Rattle.bounds.specs.Bounds.{UpperBound}
-use Rattle.bounds.specs.Domains.{Lawful, scales}
+use Rattle.bounds.specs.Domains.{scales}
 use Rattle.bounds.proofs.ScaleLaws.{ScaleLaws, scale_laws}
 use Rattle.rounds.specs.Calls.{CallsGiven, ZoneCallsGiven}
 use Rattle.rounds.proofs.Cutting.{box_fine, box_only}

@@ -1,5 +1,5 @@
 -- The law over runs in words of rounds and of the transcript alone.
-use Rattle.std.proofs.Common.{◌≡◌, ℕ, zero, suc, ◌+◌, ◌-◌, ◌<◌, ◌≤◌, Bool, true, false, cond, ◌&&◌, ◌||◌, eqb, ltb, ◌⊎◌, List, [], ◌∷◌, length, get_or, take, sym, refl, ap, ◌∙◌, subst, inl, inr, ⊎_elim, add-zero, add_assoc, zero-add, add-one, arith}
+use Rattle.std.proofs.Common.{◌≡◌, ℕ, zero, suc, ◌+◌, ◌-◌, ◌<◌, ◌≤◌, true, false, ◌||◌, eqb, ltb, List, [], ◌∷◌, length, get_or, take, sym, refl, ap, ◌∙◌, subst, inl, inr, ⊎_elim, add-zero, add_assoc, zero-add, add-one, arith}
 use Rattle.std.proofs.lemmas.Bool.{cond_both, cond-true, cond-false, eqb-true, eqb-false, eq-eqb, ne_eqb, lt-ltb, ltb-true, and_from, and_parts, or_left, or_right, or_from, cases_Bool}
 use Rattle.zones.specs.States.{value_of}
 use Rattle.bounds.specs.declared.refusal.Refusal.{Refusal}
@@ -15,9 +15,9 @@ use Rattle.rounds.specs.declared.replies.Answer.TheVariants.{Distance as told-di
 use Rattle.rounds.specs.Searches.{Search, Call, Reply, Step, ended, happens, step, asked, listing, set_up, replies, more, widens, Says, EndsWell, EndsFull, EndsRange, next_round, By, Replied}
 use Rattle.rounds.specs.Searches.Call.{widen, ask, list}
 use Rattle.rounds.specs.Searches.Reply.{widened, told, listed, refused}
-use Rattle.rounds.specs.Histories.{rounds_from, held_after, ClosedAfter, closed_after, holding, lost, losses, Follows, Told, Due}
+use Rattle.rounds.specs.Histories.{rounds_from, held_after, ClosedAfter, closed_after, holding, lost, losses, Told, Due}
 use Rattle.rounds.specs.Theorems.{RoundKept, AnswersSay, HistoriesDue}
-use Rattle.rounds.proofs.Runs.{Fine, step_fine, fresh_stands}
+use Rattle.rounds.proofs.Runs.{step_fine, fresh_stands}
 
 -- a refusal, and what holds where it comes
 by_map : (A B C D E A' B' C' D' E' : Type 0) → (A → A') → (B → B') → (C → C') → (D → D') → (E → E') → (e : Refusal) → By A B C D E e → By A' B' C' D' E' e
@@ -83,11 +83,11 @@ module _ (M : PlanMeaning) (need : Entry → ℕ) (room : ℕ) where
       (λ e. (omega arith, a ∙ e ∙ sym b), λ c. sym a ∙ c.1 ∙ b)
 
   -- one call
-  pub record Goes_on (c : Call) (f b : ℕ) (t : Step) : Type 0 where
+  pub record GoesOn (c : Call) (f b : ℕ) (t : Step) : Type 0 where
     pub due : Due M need room f b c t.reply
     pub tracks : Tracks t.next.phase t.next.entries t.next.room t.next.rounds (b + lost c t.reply)
 
-  widen_goes : (f b : ℕ) (es : List Entry) (left : ℕ) → Tracks Open es left f b → (t : Turn) → rounds_from M need room (f + 1) ≡ t → Goes_on widen f b (ended f (length es) t)
+  widen_goes : (f b : ℕ) (es : List Entry) (left : ℕ) → Tracks Open es left f b → (t : Turn) → rounds_from M need room (f + 1) ≡ t → GoesOn widen f b (ended f (length es) t)
   widen_goes f b es left k (done fs last) q = record {
     due = ((k.0, k.2), subst EndsWell (sym q) tt, refl);
     tracks = let p = last_put f es fs left last k.1 q in
@@ -131,13 +131,13 @@ module _ (M : PlanMeaning) (need : Entry → ℕ) (room : ℕ) where
     listed_due j (listed e) l = (l.1, subst (λ es. j ≤ length es) here l.2, subst (λ es. e ≡ entry_at es (j - 1)) here l.3)
     listed_due j (refused e) l = by_map _ _ _ _ _ _ _ _ _ _ (λ x. x) (λ x. x) (λ x. x) not_unfit (λ x h. subst (λ es. length es < j) here (x.1 h)) e l
 
-    ask_goes : (D p : ℕ) (rs : List ℕ) → Replied M need s s.rounds (ask D p rs) (asked M s D p rs) → Goes_on (ask D p rs) s.rounds b (record { reply = asked M s D p rs; next = s })
+    ask_goes : (D p : ℕ) (rs : List ℕ) → Replied M need s s.rounds (ask D p rs) (asked M s D p rs) → GoesOn (ask D p rs) s.rounds b (record { reply = asked M s D p rs; next = s })
     ask_goes D p rs l = record { due = asked_due D p rs (asked M s D p rs) l; tracks = tracks_same s.phase s.entries s.room s.rounds b k }
 
-    list_goes : (j : ℕ) → Replied M need s s.rounds (list j) (listing s.entries j) → Goes_on (list j) s.rounds b (record { reply = listing s.entries j; next = s })
+    list_goes : (j : ℕ) → Replied M need s s.rounds (list j) (listing s.entries j) → GoesOn (list j) s.rounds b (record { reply = listing s.entries j; next = s })
     list_goes j l = record { due = listed_due j (listing s.entries j) l; tracks = tracks_same s.phase s.entries s.room s.rounds b k }
 
-  happens_goes : (s : Search) (ph : Phase) → s.phase ≡ ph → (b : ℕ) → Tracks ph s.entries s.room s.rounds b → (c : Call) → Replied M need s s.rounds c (happens M need ph s c).reply → Goes_on c s.rounds b (happens M need ph s c)
+  happens_goes : (s : Search) (ph : Phase) → s.phase ≡ ph → (b : ℕ) → Tracks ph s.entries s.room s.rounds b → (c : Call) → Replied M need s s.rounds c (happens M need ph s c).reply → GoesOn c s.rounds b (happens M need ph s c)
   happens_goes s Unfit q b k c l = absurd k
   happens_goes s Open q b k widen l = widen_goes s.rounds b s.entries s.room k (next_round M need s) (round_is s.rounds s.entries s.room k.1)
   happens_goes s Open q b k (ask D p rs) l = ask_goes s b (subst (λ x. Tracks x s.entries s.room s.rounds b) (sym q) k) D p rs l
@@ -149,7 +149,7 @@ module _ (M : PlanMeaning) (need : Entry → ℕ) (room : ℕ) where
   happens_goes s Stopped q b k (ask D p rs) l = ask_goes s b (subst (λ x. Tracks x s.entries s.room s.rounds b) (sym q) k) D p rs l
   happens_goes s Stopped q b k (list j) l = list_goes s b (subst (λ x. Tracks x s.entries s.room s.rounds b) (sym q) k) j l
 
-  step_goes : (s : Search) (b : ℕ) → Tracks s.phase s.entries s.room s.rounds b → (c : Call) → Replied M need s s.rounds c (step M need s c).reply → Goes_on c s.rounds b (step M need s c)
+  step_goes : (s : Search) (b : ℕ) → Tracks s.phase s.entries s.room s.rounds b → (c : Call) → Replied M need s s.rounds c (step M need s c).reply → GoesOn c s.rounds b (step M need s c)
   unfolding step
   step_goes s b k c l = happens_goes s s.phase refl b k c l
 

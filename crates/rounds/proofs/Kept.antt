@@ -2,9 +2,7 @@
 use Rattle.std.proofs.Common.{◌≡◌, ℕ, zero, suc, ◌+◌, ◌<◌, eqb, List, length, sym, ap, subst, arith}
 use native.Mathlib.Decide.{dec_lt}
 use Rattle.std.proofs.lemmas.Bool.{cond_both, eqb-true}
-use Rattle.bounds.specs.declared.refusal.Refusal.TheVariants as refusal
 use Rattle.plans.specs.Meaning.{PlanMeaning, outcome_at, goal_at}
-use Rattle.rounds.specs.Codes.{every}
 use Rattle.rounds.specs.Rounds.{Entry, entry_at, move_of, Turn, round}
 use Rattle.rounds.specs.Rounds.Turn.{done, full, range}
 use Rattle.rounds.specs.Stands.{Good, AllBased, AllStepped, Founded, Below, Stands}

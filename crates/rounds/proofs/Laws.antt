@@ -1,33 +1,31 @@
 -- The zone calls of a plan keep exactly the states that they should
-use Rattle.std.proofs.Common.{◌≡◌, ℕ, zero, suc, ◌+◌, ◌-◌, ◌*◌, ◌<◌, ◌≤◌, Bool, true, false, cond, ◌&&◌, ◌⊎◌, List, [], ◌∷◌, length, get_or, ℤ, pos, negsuc, ◌≤ℤ◌, Some, None, Option, sym, refl, ap, ◌∙◌, subst, inl, inr, ⊎_elim, arith}
-use mathlib.Core.Logic.{∥∥₁_elim, ∥∥₁_map, ∥∥₁_prop}
+use Rattle.std.proofs.Common.{◌≡◌, ℕ, zero, suc, ◌-◌, ◌*◌, ◌<◌, ◌≤◌, Bool, true, false, List, [], length, ℤ, pos, negsuc, ◌≤ℤ◌, Some, None, Option, sym, refl, ap, ◌∙◌, subst, arith}
+use mathlib.Core.Logic.{∥∥₁_elim}
 use mathlib.Core.Bool.{Bool-discrete}
 use mathlib.Core.HLevel.{hedberg}
 use native.Mathlib.Decide.{dec_lt}
 use borrow.Author.Differences.{ints}
 use lib.ListN.{get_or-eq_default}
-use Rattle.std.proofs.lemmas.Bool.{and_parts, cases_lt, false≢true}
+use Rattle.std.proofs.lemmas.Bool.{and_parts, false≢true}
 use Rattle.bounds.specs.declared.bound.Bound.{Bound}
-use Rattle.bounds.specs.Bounds.{UpperBound, none, upto}
+use Rattle.bounds.specs.Bounds.{none}
 use Rattle.bounds.specs.Sums.{bound_of}
 use Rattle.bounds.specs.Domains.{Lawful, scales}
 use Rattle.bounds.proofs.ScaleLaws.{ScaleLaws, scale_laws, scale_is, scale_allowed}
 use Rattle.bounds.proofs.Apart.{normal_none}
 use Rattle.zones.specs.declared.codes.Code.{Code}
-use Rattle.zones.specs.declared.boxes.Side.{Side}
 use Rattle.zones.specs.declared.boxes.ClockBox.{ClockBox}
 use Rattle.zones.specs.Codes.{at}
-use Rattle.zones.specs.Matrices.{Holds, Readings, all_at, later as zone-later, zeroed, back_at}
-use Rattle.zones.specs.Boxes.{Ordinary, Plain, side_of, no_side, boxed, BoxSays}
+use Rattle.zones.specs.Matrices.{all_at, later as zone-later, zeroed, back_at}
+use Rattle.zones.specs.Boxes.{Ordinary, Plain, side_of, boxed, BoxSays}
 use Rattle.zones.specs.Calls.{Leads, BackDone}
-use Rattle.plans.specs.Boxes.{InBox, later, reset, scaled, absent, blank, InRange, BoxOf, side}
-use Rattle.plans.specs.Meaning.{PlanMeaning, WellFormed, OutcomeOf, invariant_of, position_at, move_at, outcome_at, goal_at, no_position}
+use Rattle.plans.specs.Boxes.{InBox, later, reset, scaled, absent, InRange, BoxOf}
+use Rattle.plans.specs.Meaning.{PlanMeaning, WellFormed, OutcomeOf, invariant_of, outcome_at, goal_at, no_position}
 use Rattle.plans.specs.Items.{Names}
-use Rattle.rounds.specs.Codes.{Remains, whole, cut_box, back_zone, undo_zone, within_zone, holds_zone}
+use Rattle.rounds.specs.Codes.{Remains, whole, back_zone, undo_zone, within_zone, holds_zone}
 use Rattle.rounds.specs.Codes.Remains.{kept, empty, beyond}
 use Rattle.rounds.specs.Answers.{answered, left, ZoneCodes, Valid}
-use Rattle.rounds.specs.Calls.{Undone, Undoes}
-use Rattle.rounds.specs.Unused.{Unasked}
+use Rattle.rounds.specs.Calls.{Undoes}
 use Rattle.rounds.specs.Held.{clock, Held, Scale, Fits, Earlier, Exact}
 use Rattle.rounds.specs.Rounds.{resets_of, cut_by, move_of}
 use Rattle.rounds.proofs.Cutting.{box_fine}

@@ -1,11 +1,10 @@
 -- What the loops of a round step by.
-use Rattle.std.proofs.Common.{◌≡◌, ℕ, ◌+◌, ◌-◌, ◌<◌, ◌≤◌, false, ◌&&◌, ◌||◌, eqb, List, [], ◌∷◌, ◌++◌, map, length, get_or, drop, sym, refl, ap, ◌∙◌, subst, arith}
+use Rattle.std.proofs.Common.{◌≡◌, ℕ, ◌+◌, ◌<◌, ◌≤◌, false, ◌&&◌, ◌||◌, eqb, List, [], ◌∷◌, ◌++◌, map, length, get_or, drop, sym, refl, ap, ◌∙◌, subst, arith}
 use Rattle.std.specs.List.{flat_map}
 use Rattle.std.proofs.lemmas.List.{at_drop_more, at_drop_all, get_or_append_left, length-append}
 use Rattle.zones.specs.declared.codes.Code.{Code}
-use Rattle.bounds.specs.declared.refusal.Refusal.TheVariants as refusal
 use Rattle.rounds.specs.Codes.{within_zone}
-use Rattle.rounds.specs.Rounds.{Entry, no_entry, entry_at, Start, starts, Turn, onward, covering, tried, tries}
+use Rattle.rounds.specs.Rounds.{Entry, no_entry, entry_at, Start, Turn, onward, covering, tried, tries}
 use Rattle.rounds.specs.Rounds.Turn.{done, full, range}
 use Rattle.rounds.specs.Causes.{Spent, Because}
 use Rattle.rounds.proofs.Causes.{tries_because}

@@ -1,21 +1,19 @@
 -- Readings of a plan's states, and of its zones' states
-use Rattle.std.proofs.Common.{◌≡◌, ℕ, zero, suc, ◌+◌, ◌*◌, ◌<◌, ◌≤◌, Bool, true, false, cond, ◌⊎◌, List, get_or, ℤ, pos, negsuc, ◌+ℤ◌, ◌-ℤ◌, ◌*ℤ◌, ◌≤ℤ◌, sym, refl, ap, ◌∙◌, subst, inl, inr, ⊎_elim, mul_assoc, mul_comm, mul-le-mul, one-mul, mul-zero, mul-add, arith}
+use Rattle.std.proofs.Common.{◌≡◌, ℕ, zero, suc, ◌+◌, ◌*◌, ◌<◌, ◌≤◌, Bool, true, false, cond, List, get_or, ℤ, pos, ◌+ℤ◌, ◌-ℤ◌, ◌*ℤ◌, ◌≤ℤ◌, sym, refl, ap, ◌∙◌, subst, mul_assoc, mul_comm, mul-le-mul, one-mul, mul-zero, mul-add, arith}
 use mathlib.Core.Path.{fun_ext}
 use borrow.Author.Differences.{ints}
-use Rattle.std.proofs.lemmas.Bool.{cond_both}
-use Rattle.bounds.specs.Bounds.{UpperBound, none, upto, Meets}
+use Rattle.bounds.specs.Bounds.{UpperBound, Meets}
 use Rattle.bounds.specs.Sums.{bound_of}
-use Rattle.bounds.specs.Laws.{times_is, times_plus}
+use Rattle.bounds.specs.Laws.{times_plus}
 use Rattle.bounds.proofs.Scales.{meets_down}
 use Rattle.zones.specs.declared.codes.Code.{Code}
-use Rattle.zones.specs.declared.boxes.Side.{Side}
 use Rattle.zones.specs.declared.boxes.ClockBox.{ClockBox}
 use Rattle.zones.specs.Codes.{at}
 use Rattle.zones.specs.Matrices.{Holds, Readings, later as zone-later, zeroed}
-use Rattle.zones.specs.Boxes.{turned, side_of, InBox as InSides}
+use Rattle.zones.specs.Boxes.{InBox as InSides}
 use Rattle.zones.specs.States.{value_of, reading}
 use Rattle.zones.proofs.Helly.{meets_scaled}
-use Rattle.plans.specs.Boxes.{InSide, side, InBox, later, reset, scaled}
+use Rattle.plans.specs.Boxes.{side, InBox, later, reset, scaled}
 use Rattle.rounds.specs.Held.{clock, Held}
 use Rattle.rounds.specs.Rounds.{resets_of}
 

@@ -1,7 +1,6 @@
 -- The theorems of the search, together
 use Rattle.std.proofs.Common.{ℕ}
-use Rattle.bounds.specs.Domains.{Lawful}
-use Rattle.plans.specs.Meaning.{PlanMeaning, WellFormed}
+use Rattle.plans.specs.Meaning.{PlanMeaning}
 use Rattle.rounds.specs.Rounds.{Entry}
 use Rattle.rounds.specs.Theorems.{Theory, SearchStands}
 use Rattle.rounds.proofs.Laws.{Laws, laws}

@@ -1,11 +1,11 @@
 -- Answers under a deadline, read below
-use Rattle.std.proofs.Common.{◌≡◌, ℕ, zero, suc, ◌<◌, ◌≤◌, Bool, cond, ltb, List, length, sym, refl, ap, ◌∙◌, subst}
+use Rattle.std.proofs.Common.{◌≡◌, ℕ, zero, suc, ◌<◌, List, length, sym, refl, subst}
 use mathlib.Core.Path.{fun_ext}
 use Rattle.bounds.specs.Domains.{Lawful}
 use Rattle.zones.specs.States.{value_of}
 use Rattle.plans.specs.Meaning.{PlanMeaning, WellFormed}
-use Rattle.plans.specs.Routes.{Route, Distance, TimelyRoute, TimelyDistance}
-use Rattle.layers.specs.Deadlines.{under, deadlined}
+use Rattle.plans.specs.Routes.{Route, TimelyRoute}
+use Rattle.layers.specs.Deadlines.{under}
 use Rattle.layers.specs.LayersSound.{under_sound}
 use Rattle.layers.specs.Theorems.{reading, Timely}
 use Rattle.layers.proofs.Timed.{deadline_states, under_is}
@@ -15,7 +15,7 @@ use Rattle.rounds.specs.declared.replies.Answer.TheVariants.{Distance as told-di
 use Rattle.rounds.specs.Rounds.{Entry}
 use Rattle.rounds.specs.Searches.{Says}
 use Rattle.rounds.specs.Histories.{Told}
-use Rattle.rounds.specs.Deadlines.{lifted, SaysTimely, ToldTimely, TimelyTheory, DeadlinesStand}
+use Rattle.rounds.specs.Deadlines.{lifted, SaysTimely, ToldTimely, DeadlinesStand}
 use Rattle.rounds.proofs.Standing.{search_stands}
 
 same_reading : (rs : List ℕ) → reading rs ≡ value_of rs

@@ -4,11 +4,10 @@ use mathlib.Core.Logic.{∥∥₁_elim, ∥∥₁_map, ∥∥₁_prop}
 use native.Mathlib.Bridge.{le_prop}
 use native.Mathlib.Decide.{dec_lt}
 use Rattle.std.proofs.lemmas.Bool.{cond_both, eqb-true, eq-eqb, and_parts, and_from, both_ways}
-use Rattle.bounds.specs.declared.refusal.Refusal.TheVariants as refusal
 use Rattle.plans.specs.Meaning.{PlanMeaning}
 use Rattle.plans.specs.Routes.{Route, Distance}
 use Rattle.rounds.specs.Held.{clock, holds_state, Scale}
-use Rattle.rounds.specs.Rounds.{Entry, entry_at, round}
+use Rattle.rounds.specs.Rounds.{Entry, entry_at}
 use Rattle.rounds.specs.Stands.{In, Covers, Founded, Complete, Stands}
 use Rattle.rounds.specs.declared.replies.Phase.{Phase}
 use Rattle.rounds.specs.declared.replies.Phase.TheVariants.{Open, Closed, Stopped, Unfit}

@@ -1,9 +1,8 @@
 -- What a round keeps, and what it reaches.
-use Rattle.std.proofs.Common.{◌≡◌, ℕ, zero, suc, ◌+◌, ◌-◌, ◌<◌, ◌&&◌, eqb, leb, List, [], ◌∷◌, ◌++◌, map, length, sym, refl, subst, arith}
+use Rattle.std.proofs.Common.{◌≡◌, ℕ, zero, suc, ◌-◌, ◌<◌, ◌&&◌, eqb, leb, List, [], ◌∷◌, ◌++◌, map, length, sym, refl, subst, arith}
 use Rattle.std.proofs.lemmas.Bool.{and_parts, and_from, eqb-true, eq-eqb, leb-true, le-leb, cond_both, cond-true}
 use Rattle.std.specs.List.{flat_map}
 use Rattle.zones.specs.declared.codes.Code.{Code}
-use Rattle.bounds.specs.declared.refusal.Refusal.TheVariants as refusal
 use Rattle.plans.specs.Boxes.{InBox, reset}
 use Rattle.plans.specs.Items.{Names}
 use Rattle.plans.specs.Meaning.{PlanMeaning, invariant_of, outcome_at, goal_at, no_outcome, no_goal}

@@ -1,9 +1,9 @@
 -- Zone calls that name no clock above n ask nothing of one
-use Rattle.std.proofs.Common.{◌≡◌, ℕ, zero, suc, ◌+◌, ◌*◌, ◌/◌, ◌%◌, ◌<◌, ◌≤◌, Bool, true, false, cond, eqb, ◌⊎◌, List, sym, refl, ap, ◌∙◌, subst, inl, inr, ⊎_elim, arith}
+use Rattle.std.proofs.Common.{◌≡◌, ℕ, zero, suc, ◌+◌, ◌/◌, ◌%◌, ◌<◌, ◌≤◌, Bool, true, false, cond, eqb, List, sym, refl, ap, ◌∙◌, subst, ⊎_elim, arith}
 use Rattle.std.proofs.lemmas.Bool.{cond-true, cond-false, cond_both, cases_eq, cases_lt, cases_Bool, both_ways, eq-eqb, ne_eqb}
 use Rattle.bounds.specs.Bounds.{UpperBound, none, upto, plus, level, Tight}
 use Rattle.bounds.specs.Laws.{plus_comm, plus_level, tight_plus, tight_refl, tight_trans}
-use Rattle.zones.specs.Matrices.{tighter, Canon, all_at, cut_at, front_of, back_at, zeroed, free_at, zero_all, undo_at}
+use Rattle.zones.specs.Matrices.{tighter, Canon, all_at, cut_at, front_of, back_at, zeroed, free_at, zero_all}
 use Rattle.bounds.specs.Sums.{bound_of}
 use Rattle.zones.specs.declared.boxes.Side.{Side}
 use Rattle.zones.specs.Boxes.{side_of, turned, box_bound, row_of, column_of, boxed}

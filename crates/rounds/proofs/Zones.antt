@@ -2,7 +2,6 @@
 use Rattle.std.proofs.Common.{◌≡◌, ℕ, suc, ◌+◌, ◌*◌, ◌<◌, ◌≤◌, true, List, length, sym, refl, ap, ◌∙◌, subst, mul_assoc}
 use mathlib.Core.Logic.{∥∥₁_elim, ∥∥₁_map, ∥∥₁_prop}
 use Rattle.zones.specs.declared.codes.Code.{Code}
-use Rattle.bounds.specs.declared.refusal.Refusal.TheVariants as refusal
 use Rattle.plans.specs.declared.rows.Outcome.{Outcome}
 use Rattle.plans.specs.declared.rows.Goal.{Goal}
 use Rattle.plans.specs.Boxes.{InBox, later, reset, scaled}
@@ -10,7 +9,7 @@ use Rattle.plans.specs.Meaning.{PlanMeaning, invariant_of, outcome_at, goal_at}
 use Rattle.plans.specs.Routes.{Run, Route}
 use Rattle.rounds.specs.Codes.{Remains, then, whole, back_zone, undo_zone}
 use Rattle.rounds.specs.Held.{Held, Scale, Fits, Earlier, Exact}
-use Rattle.rounds.specs.Rounds.{Entry, resets_of, move_of, cut_by, taken_back, goal_zone, step_zone, after, round}
+use Rattle.rounds.specs.Rounds.{Entry, resets_of, move_of, cut_by, taken_back, goal_zone, step_zone}
 use Rattle.rounds.specs.Stands.{Real}
 use Rattle.plans.specs.Routes.Run.{last, first}
 use Rattle.rounds.proofs.Readings.{scaled_scaled, scaled_later, scaled_reset, times_some, box_up}

@@ -1,5 +1,5 @@
 -- What remains of a zone, as the zone's own calls answer it.
-use Rattle.std.specs.Prelude.{◌≡◌, ℕ, List, length, Ok, Err, Result}
+use Rattle.std.specs.Prelude.{◌≡◌, List, length, Ok, Err, Result}
 use Rattle.bounds.specs.declared.refusal.Refusal.{Refusal}
 use Rattle.bounds.specs.declared.refusal.Refusal.TheVariants as refused
 use Rattle.zones.specs.declared.zone.Cut.{Cut}

@@ -1,5 +1,5 @@
 -- The functions on codes are what a zone's own calls say, and those calls say nothing else.
-use Rattle.std.specs.Prelude.{◌≡◌, ℕ, ◌<◌, Bool, true, false, List, ℤ, Ok, Err, Result}
+use Rattle.std.specs.Prelude.{◌≡◌, ℕ, ◌<◌, Bool, true, false, List, ℤ, Ok, Result}
 use Rattle.bounds.specs.declared.refusal.Refusal.{Refusal}
 use Rattle.bounds.specs.Bounds.{UpperBound}
 use Rattle.bounds.specs.Domains.{Lawful, scales}

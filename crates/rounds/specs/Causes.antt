@@ -2,7 +2,6 @@
 use Rattle.std.specs.Prelude.{◌≡◌, ℕ, ◌+◌, ◌<◌, false, List, [], ◌∷◌, ◌++◌, length, slice_index_or}
 use Rattle.zones.specs.declared.codes.Code.{Code}
 use Rattle.plans.specs.Meaning.{PlanMeaning}
-use Rattle.rounds.specs.Codes.{Remains}
 use Rattle.rounds.specs.Codes.Remains.{kept, empty, beyond}
 use Rattle.rounds.specs.Rounds.{Entry, Start, covering, starts, Turn, round}
 use Rattle.rounds.specs.Rounds.Turn.{done, full, range}

@@ -1,5 +1,5 @@
 -- Zone calls as functions on the 81 codes of a zone.
-use Rattle.std.specs.Prelude.{◌≡◌, ℕ, zero, suc, ◌+◌, ◌-◌, ◌*◌, ◌/◌, ◌%◌, Bool, true, false, cond, ◌&&◌, ◌||◌, leb, List, map, ℤ, pos, negsuc, ◌-ℤ◌, ◌*ℤ◌, ◌==◌, int_le, int_lt, nat_le, nat_lt}
+use Rattle.std.specs.Prelude.{ℕ, zero, suc, ◌+◌, ◌-◌, ◌*◌, ◌/◌, ◌%◌, Bool, true, false, cond, ◌&&◌, ◌||◌, leb, List, map, ℤ, pos, negsuc, ◌-ℤ◌, ◌*ℤ◌, ◌==◌, int_le, int_lt, nat_le, nat_lt}
 use Rattle.std.specs.List.{range_with_len}
 use Rattle.bounds.specs.Bounds.{UpperBound, none, upto}
 use Rattle.zones.specs.declared.codes.Code.{Code}

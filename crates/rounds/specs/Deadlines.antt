@@ -6,7 +6,7 @@ use Rattle.plans.specs.Meaning.{PlanMeaning, WellFormed}
 use Rattle.plans.specs.Routes.{TimelyRoute, TimelyDistance}
 use Rattle.layers.specs.Deadlines.{under}
 use Rattle.rounds.specs.declared.replies.Phase.{Phase}
-use Rattle.rounds.specs.declared.replies.Phase.TheVariants.{Open, Closed, Stopped, Unfit}
+use Rattle.rounds.specs.declared.replies.Phase.TheVariants.{Closed}
 use Rattle.rounds.specs.declared.replies.Answer.{Answer}
 use Rattle.rounds.specs.declared.replies.Answer.TheVariants.{Distance as told-distance, NoRoute, Untold}
 use Rattle.rounds.specs.Rounds.{Entry}

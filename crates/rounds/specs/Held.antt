@@ -1,5 +1,5 @@
 -- States of a plan, and the zones that hold them.
-use Rattle.std.specs.Prelude.{◌≡◌, ℕ, zero, suc, ◌*◌, ◌≤◌, Bool, true, false, List, get_or, ℤ, pos}
+use Rattle.std.specs.Prelude.{◌≡◌, ℕ, zero, suc, ◌*◌, ◌≤◌, Bool, true, List, ℤ, pos}
 use Rattle.zones.specs.declared.codes.Code.{Code}
 use Rattle.zones.specs.Codes.{at}
 use Rattle.zones.specs.Matrices.{Holds}

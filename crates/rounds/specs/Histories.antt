@@ -1,6 +1,5 @@
 -- The law over runs in words of rounds and of the transcript alone.
-use Rattle.std.specs.Prelude.{◌≡◌, ℕ, zero, suc, ◌+◌, ◌-◌, ◌<◌, ◌≤◌, Bool, true, false, cond, ◌&&◌, ◌||◌, ◌⊎◌, List, [], ◌∷◌, ◌++◌, length, take, ◌==◌, nat_lt, slice_index_or}
-use Rattle.bounds.specs.declared.refusal.Refusal.{Refusal}
+use Rattle.std.specs.Prelude.{◌≡◌, ℕ, zero, suc, ◌+◌, ◌-◌, ◌<◌, ◌≤◌, Bool, cond, ◌&&◌, ◌||◌, ◌⊎◌, List, [], ◌∷◌, length, take, ◌==◌, nat_lt, slice_index_or}
 use Rattle.bounds.specs.declared.refusal.Refusal.TheVariants as refusal
 use Rattle.zones.specs.States.{value_of}
 use Rattle.plans.specs.Meaning.{PlanMeaning}
@@ -8,8 +7,8 @@ use Rattle.plans.specs.Routes.{Route, Distance}
 use Rattle.rounds.specs.declared.replies.Answer.{Answer}
 use Rattle.rounds.specs.declared.replies.Answer.TheVariants.{Distance as told-distance, NoRoute, Untold}
 use Rattle.rounds.specs.Rounds.{Entry, entry_at, Turn, entries_of, onward, round}
-use Rattle.rounds.specs.Rounds.Turn.{done, full, range}
-use Rattle.rounds.specs.Searches.{Call, Reply, Askable, By, set_up, replies, widens, EndsWell, EndsFull, EndsRange}
+use Rattle.rounds.specs.Rounds.Turn.{done}
+use Rattle.rounds.specs.Searches.{Call, Reply, Askable, By, widens, EndsWell, EndsFull, EndsRange}
 use Rattle.rounds.specs.Searches.Call.{widen, ask, list}
 use Rattle.rounds.specs.Searches.Reply.{widened, told, listed, refused}
 

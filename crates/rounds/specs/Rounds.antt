@@ -1,5 +1,5 @@
 -- A round, as a function of the plan's meaning, the entries and the room before it.
-use Rattle.std.specs.Prelude.{◌≡◌, ℕ, zero, suc, ◌+◌, ◌-◌, ◌<◌, ◌≤◌, Bool, true, false, cond, ◌&&◌, ◌||◌, List, [], ◌∷◌, ◌++◌, map, length, ◌==◌, nat_le, slice_index_or}
+use Rattle.std.specs.Prelude.{ℕ, zero, suc, ◌-◌, Bool, false, cond, ◌&&◌, ◌||◌, List, [], ◌∷◌, ◌++◌, map, ◌==◌, nat_le, slice_index_or}
 use Rattle.std.specs.List.{flat_map}
 use Rattle.zones.specs.declared.codes.Code.{Code}
 use Rattle.zones.specs.declared.boxes.ClockBox.{ClockBox}

@@ -1,5 +1,5 @@
 -- A Search as a state machine, and what its replies mean.
-use Rattle.std.specs.Prelude.{◌≡◌, ℕ, zero, suc, ◌+◌, ◌-◌, ◌<◌, ◌≤◌, Bool, true, false, cond, ◌&&◌, leb, List, [], ◌∷◌, ◌++◌, length, take, Some, None, Option, ◌==◌, ◌≢◌, nat_le, slice_index, slice_index_or}
+use Rattle.std.specs.Prelude.{◌≡◌, ℕ, ◌+◌, ◌-◌, ◌<◌, ◌≤◌, Bool, true, cond, ◌&&◌, leb, List, [], ◌∷◌, length, take, Some, None, Option, ◌==◌, ◌≢◌, nat_le, slice_index, slice_index_or}
 use Rattle.bounds.specs.declared.refusal.Refusal.{Refusal}
 use Rattle.bounds.specs.declared.refusal.Refusal.TheVariants as refusal
 use Rattle.zones.specs.States.{value_of}
@@ -10,7 +10,7 @@ use Rattle.rounds.specs.declared.replies.Phase.TheVariants.{Open, Closed, Stoppe
 use Rattle.rounds.specs.declared.replies.Answer.{Answer}
 use Rattle.rounds.specs.declared.replies.Answer.TheVariants.{Distance as told-distance, NoRoute, Untold}
 use Rattle.rounds.specs.Codes.{every}
-use Rattle.rounds.specs.Held.{holds_state, Scale}
+use Rattle.rounds.specs.Held.{holds_state}
 use Rattle.rounds.specs.Rounds.{Entry, entry_at, Turn, round}
 use Rattle.rounds.specs.Rounds.Turn.{done, full, range}
 

@@ -1,18 +1,18 @@
 -- The theorems of the Search, for every lawful time domain, well-formed plan and store.
-use Rattle.std.specs.Prelude.{◌≡◌, ℕ, zero, suc, ◌+◌, ◌-◌, ◌<◌, ◌≤◌, Bool, true, false, cond, List, [], ◌∷◌, ◌++◌, length, ◌≢◌}
+use Rattle.std.specs.Prelude.{◌≡◌, ℕ, ◌+◌, ◌<◌, ◌≤◌, Bool, true, List, [], length, ◌≢◌}
 use Rattle.bounds.specs.Domains.{Lawful}
 use Rattle.zones.specs.declared.codes.Code.{Code}
 use Rattle.plans.specs.Meaning.{PlanMeaning, WellFormed}
-use Rattle.plans.specs.Routes.{Route, Distance}
+use Rattle.plans.specs.Routes.{Route}
 use Rattle.rounds.specs.declared.replies.Phase.{Phase}
-use Rattle.rounds.specs.declared.replies.Phase.TheVariants.{Open, Closed, Stopped, Unfit}
-use Rattle.rounds.specs.Codes.Remains.{kept, empty, beyond}
+use Rattle.rounds.specs.declared.replies.Phase.TheVariants.{Open, Stopped, Unfit}
+use Rattle.rounds.specs.Codes.Remains.{kept}
 use Rattle.rounds.specs.Held.{Scale}
 use Rattle.rounds.specs.Rounds.{Entry, entry_at, starts, Turn, round}
 use Rattle.rounds.specs.Rounds.Turn.{done, full, range}
 use Rattle.rounds.specs.Stands.{Stands, Covers, EntryOf}
 use Rattle.rounds.specs.Causes.{start_at}
-use Rattle.rounds.specs.Searches.{Search, Call, Reply, find, answer, phase_after, Says, set_up, replies, Law}
+use Rattle.rounds.specs.Searches.{Call, find, answer, phase_after, Says, set_up, replies, Law}
 use Rattle.rounds.specs.Histories.{History}
 
 -- what stands after round f

@@ -1,4 +1,4 @@
-use crate::rounds::{Held, PlainPlan, play};
+use crate::plain_rounds::{Held, PlainPlan, play};
 use crate::text::line_of;
 use anyhow::anyhow;
 use bounds::time::TimeDomain;

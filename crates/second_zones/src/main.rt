@@ -3,8 +3,8 @@
 mod compare;
 mod matrix;
 mod plain;
+mod plain_rounds;
 mod random;
-mod rounds;
 mod text;
 mod upper;
 mod worked;

@@ -1,4 +1,4 @@
-use crate::rounds::PlainPlan;
+use crate::plain_rounds::PlainPlan;
 use bounds::bound::Bound;
 use bounds::time::PlanTime;
 use plans::rows::{Goal, Move, Outcome, Position};

@@ -1,4 +1,4 @@
-use crate::rounds::Held;
+use crate::plain_rounds::Held;
 use crate::upper::Upper;
 use std::alloc::{AllocError, Global};
 

@@ -1,6 +1,6 @@
 use crate::compare::compare;
+use crate::plain_rounds::PlainPlan;
 use crate::random::{ANYWHERE, FREE};
-use crate::rounds::PlainPlan;
 use bounds::bound::Bound;
 use bounds::time::PlanTime;
 use plans::rows::{Goal, Move, Outcome, Position};

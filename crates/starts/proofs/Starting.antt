@@ -1,5 +1,5 @@
 -- The zones that a round starts from are the plan's
-use Rattle.std.proofs.Common.{◌≡◌, ℕ, zero, suc, ◌-◌, ◌<◌, ◌≤◌, List, [], ◌∷◌, length, get_or, Ok, Err, Option, Result, sym, refl, ap, ◌∙◌, subst, arith}
+use Rattle.std.proofs.Common.{◌≡◌, ℕ, zero, suc, ◌-◌, ◌<◌, List, [], ◌∷◌, length, get_or, Ok, Err, Option, Result, sym, refl, ap, ◌∙◌, subst, arith}
 use Rattle.bounds.specs.declared.refusal.Refusal.{Refusal}
 use Rattle.bounds.specs.Bounds.{UpperBound}
 use Rattle.zones.specs.declared.codes.Code.{Code}
@@ -12,11 +12,10 @@ use Rattle.plans.specs.declared.rows.Outcome.{Outcome}
 use Rattle.plans.specs.declared.rows.Goal.{Goal}
 use Rattle.plans.specs.Items.{Names, Item}
 use Rattle.plans.specs.Meaning.{PlanMeaning, WellFormed, invariant_of, no_position}
-use Rattle.rounds.specs.Calls.{ZoneOf}
 use Rattle.rounds.specs.Rounds.{move_of, taken_back, goal_zone, step_zone}
 use Rattle.rounds.proofs.Laws.{box_fair}
 use Rattle.starts.specs.Told.{Tells}
-use Rattle.starts.specs.Starts.{GoalWay, goal_way, StepWay, step_way, InvariantTells, GoalOf, StepOf, GoalTells, StepTells}
+use Rattle.starts.specs.Starts.{GoalWay, goal_way, StepWay, step_way, InvariantTells, StepOf, GoalTells, StepTells}
 
 -- an item is there whatever stands for those that are not
 pub item_at : {A : Type 0} (xs : List A) (i : ℕ) (d e : A) → i < length xs → get_or xs i d ≡ get_or xs i e

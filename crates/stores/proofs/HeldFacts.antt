@@ -1,6 +1,6 @@
 -- The entries that bytes hold
-use Rattle.std.proofs.Common.{◌≡◌, ℕ, zero, suc, ◌+◌, ◌-◌, ◌<◌, ◌≤◌, List, [], ◌∷◌, ◌++◌, length, get_or, take, drop, sym, refl, ap, ◌∙◌, subst, append_assoc, append-nil, arith, length-append}
-use mathlib.Core.Logic.{∥∥₁_elim, ∥∥₁_prop, ∥∥₁_map}
+use Rattle.std.proofs.Common.{◌≡◌, ℕ, ◌+◌, ◌≤◌, List, [], ◌∷◌, ◌++◌, length, take, drop, sym, refl, ap, ◌∙◌, subst, append_assoc, append-nil, arith, length-append}
+use mathlib.Core.Logic.{∥∥₁_elim, ∥∥₁_map}
 use mathlib.Core.List.{is_set}
 use Rattle.std.proofs.lemmas.List.{length-take-le, take_at}
 use Rattle.byte_text.specs.Lines.{written}
@@ -13,7 +13,6 @@ use Rattle.entries.specs.declared.entry.Entry.{Entry}
 use Rattle.entries.specs.contracts.entry.Entry.{the_row}
 use Rattle.entries.specs.Entries.{IsEntry}
 use Rattle.entries.specs.Lines.{line}
-use Rattle.entries.specs.Lists.{lines, AllEntries}
 use Rattle.entries.proofs.Unique.{lines_append, all_append, lines_long}
 use Rattle.stores.specs.Held.{Holding, Kept, kept_prop, held}
 

@@ -1,8 +1,7 @@
 -- One line after another
-use Rattle.std.proofs.Common.{◌≡◌, ℕ, zero, suc, ◌+◌, ◌-◌, ◌<◌, ◌≤◌, List, [], ◌∷◌, ◌++◌, length, get_or, take, drop, Some, None, Option, sym, refl, ap, ◌∙◌, subst, add-one, arith, length-drop}
+use Rattle.std.proofs.Common.{◌≡◌, ℕ, zero, suc, ◌+◌, ◌<◌, List, [], ◌∷◌, ◌++◌, length, get_or, take, drop, sym, refl, ap, ◌∙◌, subst, add-one, arith}
 use Rattle.byte_text.specs.Parts.{up_to}
 use Rattle.entries.specs.declared.entry.Entry.{Entry}
-use Rattle.entries.specs.Entries.{IsEntry}
 use Rattle.entries.specs.Lines.{line}
 use Rattle.entries.specs.Lists.{lines, AllEntries}
 use Rattle.entries.proofs.Unique.{first_line}

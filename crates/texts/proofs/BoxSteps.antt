@@ -1,5 +1,5 @@
 -- The steps of the reader of boxes.
-use Rattle.std.proofs.Common.{◌≡◌, ℕ, suc, ◌+◌, ◌-◌, ◌<◌, ◌≤◌, Bool, true, false, cond, not, ◌&&◌, ◌||◌, eqb, ltb, leb, List, [], ◌∷◌, length, get_or, take, drop, set, Some, None, Ok, Err, Option, Result, sym, refl, ap, ◌∙◌, arith, length-set, lt-ltb, eq-eqb, ne_eqb, le-leb}
+use Rattle.std.proofs.Common.{◌≡◌, ℕ, suc, ◌+◌, ◌-◌, ◌<◌, ◌≤◌, Bool, true, false, cond, ◌&&◌, eqb, leb, List, [], ◌∷◌, length, get_or, take, drop, set, Some, None, Ok, Err, Option, Result, sym, refl, ap, ◌∙◌, arith, length-set, lt-ltb, eq-eqb, ne_eqb, le-leb}
 use Rattle.std.proofs.lemmas.List.{at_drop_more, at_drop_all, take_rest}
 use Rattle.std.proofs.lemmas.Bool.{cond-true, cond-false, or_from, or_left, or_right, and_from}
 use Rattle.std.proofs.lemmas.Bool.Decides.{nat_tests}
@@ -9,7 +9,6 @@ use Rattle.zones.specs.declared.boxes.Side.{Side}
 use Rattle.zones.specs.Boxes.{no_side}
 use Rattle.byte_text.specs.Parts.{Place, head_place, tail_places, parted}
 use Rattle.texts.specs.declared.boxes.ClockBound.{ClockBound}
-use Rattle.texts.specs.Faults.{refused}
 use Rattle.texts.specs.Fields.{dash, bounds}
 use Rattle.texts.specs.BoxFields.{up_to_sign, bound_with, bound_after, bound_in, side_with, no_sides, tightened, box_with, box_from, box_of, boxed, box_field}
 

@@ -1,10 +1,10 @@
 -- What the steps of a line tell.
-use Rattle.std.proofs.Common.{◌≡◌, ℕ, suc, ◌+◌, ◌-◌, ◌*◌, ◌<◌, ◌≤◌, Bool, true, false, cond, not, ◌&&◌, ◌||◌, eqb, ltb, leb, List, [], ◌∷◌, Some, None, Ok, Err, Option, Result, sym, refl, ap, ◌∙◌, subst, arith}
+use Rattle.std.proofs.Common.{◌≡◌, ℕ, ◌+◌, ◌≤◌, Bool, true, false, Some, None, Ok, Option, refl, arith}
 use Rattle.std.proofs.lemmas.Bool.Decides.{nat_tests}
 use Rattle.bounds.specs.declared.refusal.Refusal.{Refusal}
 use Rattle.byte_text.specs.Numerals.{number_to}
 use Rattle.byte_text.specs.Parts.{Place}
-use Rattle.texts.specs.Faults.{Fault, demanded}
+use Rattle.texts.specs.Faults.{demanded}
 use Rattle.texts.specs.Fields.{Shown, number_field, in_range, number, word, clocks, bounds}
 use Rattle.texts.specs.declared.words.Phase.{Phase}
 use Rattle.texts.specs.declared.words.Phase.TheVariants as phases

@@ -1,9 +1,8 @@
 -- The three ways of `next_line`.
-use Rattle.std.proofs.Common.{◌≡◌, ℕ, suc, ◌+◌, ◌-◌, ◌<◌, ◌≤◌, Bool, true, false, cond, eqb, ltb, leb, List, [], ◌∷◌, ◌++◌, length, get_or, take, drop, sym, refl, ap, ◌∙◌, subst, arith, length-drop, le-ltb, lt-ltb, eq-eqb, ne_eqb, le-leb}
-use borrow.Author.Tests.{lt-leb}
+use Rattle.std.proofs.Common.{◌≡◌, ℕ, ◌+◌, ◌-◌, ◌<◌, ◌≤◌, false, List, [], ◌∷◌, length, take, drop, sym, refl, ap, ◌∙◌, arith, length-drop}
 use Rattle.std.proofs.lemmas.List.{take_rest, drop-drop, at_drop_all, take_all, drop_all}
-use Rattle.byte_text.specs.Parts.{Place, up_to, parted}
-use Rattle.texts.specs.Readers.{Next, whole, torn, over, next_of, rest_of, is_empty}
+use Rattle.byte_text.specs.Parts.{up_to, parted}
+use Rattle.texts.specs.Readers.{whole, torn, over, next_of, rest_of, is_empty}
 use Rattle.byte_text.proofs.Parting.{parted_first, after_some, after_none}
 
 pub empty_not : {X : Type 0} (l : List X) → 0 < length l → is_empty l ≡ false

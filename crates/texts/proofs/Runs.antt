@@ -1,14 +1,13 @@
 -- One turn over the lines of a text.
-use Rattle.std.proofs.Common.{◌≡◌, ℕ, suc, ◌+◌, ◌-◌, ◌*◌, ◌<◌, ◌≤◌, Bool, true, false, cond, not, ◌&&◌, ◌||◌, List, [], ◌∷◌, length, drop, Ok, Err, Result, sym, refl, ap, ◌∙◌, subst, arith}
+use Rattle.std.proofs.Common.{◌≡◌, ℕ, ◌+◌, ◌<◌, cond, List, [], ◌∷◌, length, drop, Ok, Err, sym, refl, ap, ◌∙◌, arith}
 use Rattle.byte_text.specs.Parts.{Place, parted}
 use Rattle.texts.specs.declared.plan_rows.PlanRows.{PlanRows}
 use Rattle.texts.specs.Faults.{Fault}
-use Rattle.texts.specs.PlanRows.{Tables, SameSlices}
-use Rattle.texts.specs.Readers.{Next, whole, torn, over, next_of, rest_of, is_empty}
-use Rattle.texts.specs.declared.header.Header.{Header}
-use Rattle.texts.specs.States.{State, Sound}
+use Rattle.texts.specs.PlanRows.{SameSlices}
+use Rattle.texts.specs.Readers.{whole, torn, over, next_of, rest_of, is_empty}
+use Rattle.texts.specs.States.{State}
 use Rattle.texts.specs.Lines.{step, stepped, torn_line, finished}
-use Rattle.texts.specs.Texts.{Ending, run, after, stopped, ending}
+use Rattle.texts.specs.Texts.{Ending, run, after, stopped}
 
 pub step_is : (s : State) (line : ℕ) (p : Place) → stepped s line p ≡ step s line p
 unfolding step

@@ -1,8 +1,7 @@
 -- Each accepted line keeps what holds between two lines.
-use Rattle.std.proofs.Common.{◌≡◌, ℕ, suc, ◌+◌, ◌-◌, ◌*◌, ◌<◌, ◌≤◌, Bool, true, false, cond, not, ◌&&◌, ◌||◌, eqb, ltb, leb, List, [], ◌∷◌, length, get_or, set, Ok, Err, Result, sym, refl, ap, ◌∙◌, subst, arith, length-set, get_or-set_same}
+use Rattle.std.proofs.Common.{◌≡◌, ℕ, ◌+◌, ◌-◌, ◌<◌, ◌≤◌, Bool, true, List, length, get_or, set, Ok, Err, Result, sym, refl, ap, ◌∙◌, subst, arith, length-set, get_or-set_same}
 use Rattle.std.proofs.lemmas.Bool.{and_parts, ltb-true}
-use Rattle.bounds.specs.declared.refusal.Refusal.{Refusal}
-use Rattle.bounds.specs.declared.refusal.Refusal.TheVariants.{Line, Order, Number, Name, Chance, Rows}
+use Rattle.bounds.specs.declared.refusal.Refusal.TheVariants.{Order, Number, Name, Rows}
 use Rattle.byte_text.specs.Parts.{Place, tail_places}
 use Rattle.plans.specs.declared.rows.Position.{Position}
 use Rattle.plans.specs.declared.rows.Move.{Move}
@@ -15,7 +14,7 @@ use Rattle.texts.specs.declared.words.Phase.TheVariants as phases
 use Rattle.texts.specs.Faults.{Fault, on, field_next, no_field, demanded, fields_of}
 use Rattle.texts.specs.Fields.{Shown, number_field, clocks_field}
 use Rattle.texts.specs.BoxFields.{box_field}
-use Rattle.texts.specs.Words.{letter_of, stands_at, kind_field, number_in, box_in}
+use Rattle.texts.specs.Words.{letter_of, stands_at, kind_field}
 use Rattle.texts.specs.PlanRows.{has_room, open_sum, raised_open}
 use Rattle.texts.specs.RowReads.{position_read, move_read, outcome_read, goal_read}
 use Rattle.texts.specs.States.{State, Sound}

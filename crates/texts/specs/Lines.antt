@@ -1,7 +1,6 @@
 -- What one line does.
-use Rattle.std.specs.Prelude.{ℕ, Bool, true, false, cond, not, ◌&&◌, ◌||◌, List, [], ◌∷◌, Ok, Err, Result, ◌==◌}
-use Rattle.bounds.specs.declared.refusal.Refusal.{Refusal}
-use Rattle.bounds.specs.declared.refusal.Refusal.TheVariants.{Line, Order, Number, Name, Chance, Rows}
+use Rattle.std.specs.Prelude.{ℕ, Bool, cond, not, ◌&&◌, List, Ok, Result, ◌==◌}
+use Rattle.bounds.specs.declared.refusal.Refusal.TheVariants.{Line, Order, Number, Chance, Rows}
 use Rattle.byte_text.specs.Parts.{Place, tail_places}
 use Rattle.plans.specs.declared.rows.Position.{Position}
 use Rattle.plans.specs.declared.rows.Move.{Move}

@@ -1,5 +1,5 @@
 -- The four lists of a plan, without the references.
-use Rattle.std.specs.Prelude.{◌≡◌, ℕ, ◌+◌, Bool, true, false, cond, ◌&&◌, List, length, nat_lt}
+use Rattle.std.specs.Prelude.{◌≡◌, ℕ, Bool, cond, ◌&&◌, List, length, nat_lt}
 use Rattle.plans.specs.declared.rows.Position.{Position}
 use Rattle.plans.specs.declared.rows.Move.{Move}
 use Rattle.plans.specs.declared.rows.Outcome.{Outcome}

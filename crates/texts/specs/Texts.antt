@@ -1,5 +1,5 @@
 -- What a text does, line by line.
-use Rattle.std.specs.Prelude.{ℕ, ◌+◌, Bool, true, false, cond, List, [], ◌∷◌, length, Ok, Err, Result, nat_le}
+use Rattle.std.specs.Prelude.{ℕ, ◌+◌, cond, List, [], ◌∷◌, length, Ok, Err, Result, nat_le}
 use Rattle.bounds.specs.declared.refusal.Refusal.TheVariants.{Rows}
 use Rattle.bounds.specs.declared.time.PlanTime.TheVariants.{Cycle}
 use Rattle.byte_text.specs.Parts.{Place, parted}

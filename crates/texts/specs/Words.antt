@@ -1,5 +1,5 @@
 -- The words of a plan text.
-use Rattle.std.specs.Prelude.{ℕ, Bool, true, false, cond, ◌||◌, List, length, replicate, Ok, Err, codes, Result, ◌==◌, nat_lt, slice_index}
+use Rattle.std.specs.Prelude.{ℕ, Bool, true, false, cond, ◌||◌, List, length, replicate, Ok, codes, Result, ◌==◌, nat_lt, slice_index}
 use Rattle.std.specs.Str.{bytes_eq}
 use Rattle.bounds.specs.declared.refusal.Refusal.TheVariants.{Line}
 use Rattle.bounds.specs.declared.time.PlanTime.{PlanTime}

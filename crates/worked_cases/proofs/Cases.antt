@@ -1,9 +1,9 @@
 -- The worked values of bounds and zones
-use Rattle.std.proofs.Common.{◌≡◌, ℕ, zero, suc, ◌<◌, ◌≤◌, Bool, true, false, eqb, ℤ, pos, negsuc, ◌+ℤ◌, ◌-ℤ◌, ◌*ℤ◌, ◌≤ℤ◌, ◌<ℤ◌, refl, subst, inl, inr, arith}
+use Rattle.std.proofs.Common.{◌≡◌, ℕ, zero, suc, ◌<◌, ◌≤◌, true, false, ℤ, pos, negsuc, ◌-ℤ◌, refl, inr, arith}
 use borrow.Author.Differences.{ints}
-use Rattle.bounds.specs.Bounds.{UpperBound, none, upto, plus, Meets}
-use Rattle.bounds.specs.Laws.{times_is, times_le}
-use Rattle.zones.specs.Matrices.{tighter, Holds, all_at, cut_at, back_at, zeroed}
+use Rattle.bounds.specs.Bounds.{upto, plus, Meets}
+use Rattle.bounds.specs.Laws.{times_is}
+use Rattle.zones.specs.Matrices.{tighter, cut_at, back_at}
 use Rattle.zones.specs.Cuts.{Far}
 use Rattle.worked_cases.specs.ZoneCases.{two_to_four, zero_to_four, million, chain, parted_chain, ZoneCases}
 

@@ -1,17 +1,15 @@
 -- The worked distances
-use Rattle.std.proofs.Common.{◌≡◌, ℕ, zero, suc, ◌+◌, ◌*◌, ◌<◌, ◌≤◌, Bool, true, false, List, [], ◌∷◌, ℤ, pos, ◌-ℤ◌, ◌*ℤ◌, ◌≤ℤ◌, ◌<ℤ◌, Some, None, refl, subst, mul-one, arith}
+use Rattle.std.proofs.Common.{◌≡◌, ℕ, zero, suc, ◌+◌, ◌*◌, ◌<◌, ◌≤◌, Bool, true, false, [], ◌∷◌, pos, None, refl, arith}
 use borrow.Author.Differences.{ints}
-use Rattle.std.proofs.lemmas.Bool.{eqb-true, leb-true, le-leb}
-use Rattle.bounds.specs.Bounds.{UpperBound, none, upto, Meets}
+use Rattle.std.proofs.lemmas.Bool.{eqb-true}
+use Rattle.bounds.specs.Bounds.{UpperBound, Meets}
 use Rattle.bounds.specs.Laws.{times_is}
 use Rattle.bounds.specs.Domains.{hand_allows, hand_normal, cycle_allows, cycle_normal}
 use Rattle.zones.specs.declared.boxes.Side.{Side}
-use Rattle.zones.specs.declared.boxes.ClockBox.{ClockBox}
-use Rattle.zones.specs.Boxes.{turned, no_side}
+use Rattle.zones.specs.Boxes.{turned}
 use Rattle.zones.proofs.Helly.{neg_times}
 use Rattle.plans.specs.Boxes.{InSide, InBox, side, later, reset, scaled}
-use Rattle.plans.specs.Meaning.{PlanMeaning, goal_at, outcome_at}
-use Rattle.plans.specs.Routes.{Waits, Reaches, Crosses, Run, Route, Distance}
+use Rattle.plans.specs.Routes.{Run, Distance}
 use Rattle.plans.specs.Routes.Run.{last, first}
 use Rattle.layers.specs.Deadlines.{under}
 use Rattle.layers.specs.Theorems.{reading}

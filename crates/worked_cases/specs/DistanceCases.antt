@@ -1,15 +1,11 @@
 -- Worked distances, from the meaning of routes alone.
-use Rattle.std.specs.Prelude.{◌≡◌, ℕ, Bool, true, false, List, [], ◌∷◌, ℤ, pos, Some, None, Option}
+use Rattle.std.specs.Prelude.{ℕ, Bool, true, false, List, [], ◌∷◌, pos, Some, None, Option}
 use Rattle.bounds.specs.declared.bound.Bound.{Bound}
 use Rattle.bounds.specs.Bounds.{UpperBound}
 use Rattle.bounds.specs.Domains.{hand_allows, hand_normal, cycle_allows, cycle_normal}
 use Rattle.zones.specs.declared.boxes.Side.{Side}
 use Rattle.zones.specs.declared.boxes.ClockBox.{ClockBox}
 use Rattle.zones.specs.States.{Good}
-use Rattle.plans.specs.declared.rows.Position.{Position}
-use Rattle.plans.specs.declared.rows.Move.{Move}
-use Rattle.plans.specs.declared.rows.Outcome.{Outcome}
-use Rattle.plans.specs.declared.rows.Goal.{Goal}
 use Rattle.plans.specs.Meaning.{PlanMeaning}
 use Rattle.plans.specs.Routes.{Route, Distance}
 use Rattle.layers.specs.Deadlines.{under}

@@ -1,6 +1,6 @@
 -- Worked values of bounds and zones, from the definitions alone.
-use Rattle.std.specs.Prelude.{◌≡◌, ℕ, ◌<◌, ◌≤◌, Bool, true, false, ℤ, pos, negsuc, ◌-ℤ◌, nat_eq}
-use Rattle.bounds.specs.Bounds.{UpperBound, none, upto, plus, Meets}
+use Rattle.std.specs.Prelude.{◌≡◌, ℕ, ◌<◌, ◌≤◌, true, false, ℤ, pos, negsuc, ◌-ℤ◌, nat_eq}
+use Rattle.bounds.specs.Bounds.{UpperBound, upto, plus, Meets}
 use Rattle.zones.specs.Matrices.{Holds, all_at, cut_at, back_at, zeroed}
 use Rattle.zones.specs.Cuts.{Far}
 

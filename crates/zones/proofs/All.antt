@@ -1,11 +1,11 @@
 -- The zone of every state
 use Rattle.zones.specs.declared.codes.Code.{Code}
-use Rattle.std.proofs.Common.{◌≡◌, ℕ, ◌+◌, ◌*◌, ◌%◌, ◌<◌, ◌≤◌, Bool, true, false, cond, ◌||◌, eqb, ltb, ◌⊎◌, List, get_or, ℤ, pos, ◌-ℤ◌, ◌≤ℤ◌, sym, refl, ap, ◌∙◌, subst, inl, inr, ⊎_elim, arith}
+use Rattle.std.proofs.Common.{◌≡◌, ℕ, ◌+◌, ◌*◌, ◌%◌, ◌<◌, ◌≤◌, ◌⊎◌, List, ℤ, pos, ◌-ℤ◌, ◌≤ℤ◌, sym, refl, ap, ◌∙◌, subst, inl, inr, ⊎_elim, arith}
 use borrow.Author.Differences.{ints}
 use Rattle.std.proofs.lemmas.Bool.Decides.{nat_tests}
-use Rattle.std.proofs.lemmas.Bool.{cases_lt, cases_eq, eq-eqb, ne_eqb, cond-true, cond-false}
+use Rattle.std.proofs.lemmas.Bool.{cases_eq, eq-eqb, ne_eqb, cond-true, cond-false}
 use Rattle.bounds.specs.Bounds.{UpperBound, none, upto, plus, level, Meets, Tight}
-use Rattle.zones.specs.Matrices.{Canon, Holds, all_at}
+use Rattle.zones.specs.Matrices.{Holds, all_at}
 use Rattle.zones.specs.Codes.{Near, Sound, decode, at, code_all, code_of}
 use Rattle.bounds.specs.Laws.{tight_refl, plus_level, times_is}
 use Rattle.zones.proofs.Decoding.{decode_below, decode_none}

@@ -1,13 +1,12 @@
 -- A zone taken back is canonical, and exact
-use Rattle.std.proofs.Common.{◌≡◌, ℕ, zero, suc, ◌+◌, ◌*◌, ◌<◌, ◌≤◌, Bool, true, false, cond, ◌⊎◌, ℤ, pos, negsuc, ◌+ℤ◌, ◌-ℤ◌, ◌*ℤ◌, neg_ℤ, ◌≤ℤ◌, ◌<ℤ◌, sym, refl, ap, ◌∙◌, subst, inl, inr, ⊎_elim, arith}
-use borrow.Author.Differences.{ints, up, down}
+use Rattle.std.proofs.Common.{◌≡◌, ℕ, zero, suc, ◌*◌, ◌<◌, ◌≤◌, Bool, true, false, ℤ, pos, ◌+ℤ◌, ◌-ℤ◌, ◌*ℤ◌, neg_ℤ, ◌≤ℤ◌, sym, ap, ◌∙◌, subst, ⊎_elim, arith}
+use borrow.Author.Differences.{ints}
 use Rattle.std.proofs.lemmas.Int.{by_lt_z}
 use Rattle.std.proofs.lemmas.Bool.{cases_eq}
-use Rattle.bounds.specs.Bounds.{UpperBound, none, upto, plus, level, Meets, Tight, bit}
-use Rattle.bounds.specs.Domains.{Split, Alike}
+use Rattle.bounds.specs.Bounds.{UpperBound, none, upto, plus, level, Meets, Tight}
 use Rattle.zones.specs.Matrices.{tighter, Canon, Holds, front_of, back_at, later}
 use Rattle.bounds.specs.Laws.{plus_comm, plus_level, tight_refl, tight_trans, tight_same, tight_plus, times_is, times_le, times_plus, meets_looser, meets_plus}
-use Rattle.zones.proofs.Helly.{Between, between, neg_times, times_times, meets_scaled}
+use Rattle.zones.proofs.Helly.{between, neg_times, times_times, meets_scaled}
 use Rattle.zones.proofs.Canon.{tighter_left, tighter_right, tighter_one}
 use Rattle.bounds.proofs.ScaleLaws.{ScaleLaws}
 

@@ -1,6 +1,6 @@
 -- Cutting by a box, one step after the other
 use Rattle.zones.specs.declared.codes.Code.{Code}
-use Rattle.std.proofs.Common.{◌≡◌, ℕ, zero, suc, ◌+◌, ◌-◌, ◌*◌, ◌/◌, ◌%◌, ◌<◌, ◌≤◌, Bool, true, false, cond, eqb, ◌⊎◌, List, get_or, ℤ, pos, negsuc, ◌-ℤ◌, neg_ℤ, ◌≤ℤ◌, Ok, Err, Result, sym, refl, ap, ◌∙◌, subst, inl, inr, ⊎_elim, add-one, arith}
+use Rattle.std.proofs.Common.{◌≡◌, ℕ, suc, ◌+◌, ◌*◌, ◌/◌, ◌%◌, ◌<◌, Bool, List, ℤ, ◌-ℤ◌, Ok, Err, Result, sym, refl, ap, ◌∙◌, subst, ⊎_elim, add-one, arith}
 use borrow.Author.Differences.{ints}
 use Rattle.std.proofs.lemmas.Bool.{cases_eq, cond-true, cond-false, eq-eqb, ne_eqb}
 use Rattle.zones.specs.declared.zone.Cut.{Cut}
@@ -10,10 +10,10 @@ use Rattle.bounds.specs.Bounds.{UpperBound, none, upto, plus, Meets}
 use Rattle.bounds.specs.Sums.{bound_of}
 use Rattle.zones.specs.declared.boxes.Side.{Side}
 use Rattle.zones.specs.declared.zone.Cut.TheVariants as cut
-use Rattle.zones.specs.Matrices.{tighter, Holds, cut_at}
+use Rattle.zones.specs.Matrices.{tighter, cut_at}
 use Rattle.zones.specs.Codes.{at}
 use Rattle.zones.specs.Cuts.{OfDomain, Beyond, Far, Over, CutSays}
-use Rattle.zones.specs.Boxes.{Ordinary, Plain, side_of, turned, box_bound, row_of, column_of, InBox, Upto, boxed, OverAt, FineTo, Boxed, SomeTo, NoneTo, BoxSays}
+use Rattle.zones.specs.Boxes.{Ordinary, Plain, side_of, turned, box_bound, row_of, column_of, InBox, Upto, boxed, OverAt, Boxed, NoneTo, BoxSays}
 
 pub odd_row : (s : ℕ) → s % 2 ≡ 1 → row_of s ≡ s / 2 + 1
 unfolding row_of

@@ -1,11 +1,11 @@
 -- A cut of a canonical zone is canonical, and exact
-use Rattle.std.proofs.Common.{◌≡◌, ℕ, ◌+◌, ◌*◌, ◌<◌, ◌≤◌, Bool, true, false, cond, ◌⊎◌, ℤ, pos, negsuc, ◌+ℤ◌, ◌-ℤ◌, ◌*ℤ◌, ◌≤ℤ◌, ◌<ℤ◌, sym, refl, ap, ◌∙◌, subst, inl, inr, ⊎_elim, arith}
-use borrow.Author.Differences.{ints, up, down}
+use Rattle.std.proofs.Common.{◌≡◌, ℕ, ◌<◌, ◌≤◌, true, false, ℤ, pos, ◌+ℤ◌, ◌-ℤ◌, ◌≤ℤ◌, sym, ap, ◌∙◌, subst, arith}
+use borrow.Author.Differences.{ints}
 use lib.Signed.{le_z}
-use Rattle.std.proofs.lemmas.Bool.{cond_both, cases_Bool}
+use Rattle.std.proofs.lemmas.Bool.{cond_both}
 use Rattle.bounds.specs.Bounds.{UpperBound, none, upto, plus, level, Meets, Tight, bit}
 use Rattle.zones.specs.Matrices.{tighter, Canon, Holds, cut_at}
-use Rattle.bounds.specs.Laws.{plus_assoc, plus_comm, plus_level, tight_refl, tight_trans, tight_total, tight_same, tight_plus, meets_plus, meets_looser, times_is, times_le, times_plus}
+use Rattle.bounds.specs.Laws.{plus_assoc, plus_comm, plus_level, tight_refl, tight_trans, tight_same, tight_plus, meets_plus, meets_looser, times_is, times_le, times_plus}
 use Rattle.std.proofs.lemmas.Int.{by_lt_z}
 
 pub tighter_left : (a b : UpperBound) → Tight (tighter a b) a

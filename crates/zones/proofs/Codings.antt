@@ -1,11 +1,11 @@
 -- The closed forms of `back` and of letting clocks go, in codes and in bounds
 use Rattle.zones.specs.declared.codes.Code.{Code}
-use Rattle.std.proofs.Common.{◌≡◌, ℕ, zero, suc, ◌+◌, ◌-◌, ◌*◌, ◌/◌, ◌%◌, ◌<◌, ◌≤◌, min, Bool, true, false, cond, eqb, ltb, ◌⊎◌, List, get_or, ℤ, pos, ◌-ℤ◌, sym, refl, ap, ◌∙◌, subst, inl, inr, ⊎_elim, add-one, arith}
+use Rattle.std.proofs.Common.{◌≡◌, ℕ, zero, suc, ◌+◌, ◌*◌, ◌/◌, ◌%◌, ◌<◌, ◌≤◌, min, Bool, true, false, cond, eqb, ltb, List, pos, ◌-ℤ◌, sym, refl, ap, ◌∙◌, subst, ⊎_elim, add-one, arith}
 use borrow.Author.Differences.{ints}
 use Rattle.std.proofs.lemmas.Bool.Decides.{nat_tests}
 use Rattle.std.proofs.lemmas.Bool.{cases_lt, cases_eq, cases_Bool, lt-ltb, le-ltb, eq-eqb, ne_eqb, cond-true, cond-false}
-use Rattle.bounds.specs.Bounds.{UpperBound, none, upto, plus, level, Tight, bit}
-use Rattle.zones.specs.Matrices.{tighter, front_of, back_at, zeroed, free_at}
+use Rattle.bounds.specs.Bounds.{none, upto, level, Tight}
+use Rattle.zones.specs.Matrices.{tighter, front_of, back_at, free_at}
 use Rattle.zones.specs.Codes.{Near, decode, at, code_front, code_back, code_free, code_of}
 use Rattle.zones.proofs.Decoding.{decode_below, decode_none, lim_min, bit_odd}
 

@@ -1,19 +1,16 @@
 -- What the cut of a zone's codes comes to
 use Rattle.zones.specs.declared.codes.Code.{Code}
-use Rattle.std.proofs.Common.{◌≡◌, ℕ, ◌+◌, ◌-◌, ◌*◌, ◌/◌, ◌%◌, ◌<◌, ◌≤◌, Bool, true, false, cond, not, eqb, ◌⊎◌, List, get_or, ℤ, pos, negsuc, ◌+ℤ◌, ◌-ℤ◌, ◌≤ℤ◌, ◌<ℤ◌, sym, refl, ap, ◌∙◌, subst, inl, inr, ⊎_elim, arith}
+use Rattle.std.proofs.Common.{◌≡◌, ℕ, ◌+◌, ◌*◌, ◌/◌, ◌%◌, ◌<◌, ◌≤◌, Bool, true, false, not, eqb, List, ℤ, pos, negsuc, ◌+ℤ◌, ◌-ℤ◌, ◌≤ℤ◌, ◌<ℤ◌, sym, refl, ap, ◌∙◌, subst, inl, inr, ⊎_elim, arith}
 use mathlib.Core.Bool.{beq}
 use borrow.Author.Differences.{ints}
-use Rattle.std.proofs.lemmas.Int.{by_lt_z}
 use Rattle.std.proofs.lemmas.Bool.{cases_lt}
-use Rattle.bounds.specs.Bounds.{UpperBound, none, upto, plus, level, Meets, Tight, bit}
+use Rattle.bounds.specs.Bounds.{UpperBound, none, upto, plus, level, Meets, Tight}
 use Rattle.bounds.specs.Sums.{Vast}
 use Rattle.bounds.specs.Domains.{Alike}
 use Rattle.zones.specs.Matrices.{tighter, Canon, Holds, cut_at}
 use Rattle.zones.specs.Codes.{Near, Sound, code_plus, code_cut, decode, at, code_of}
 use Rattle.zones.specs.Cuts.{OfDomain, Left, Far, Over, Beyond, CodeOf, Fit, CutOver, CutEmpty, CutKept}
-use Rattle.bounds.specs.Laws.{tight_same, tight_refl, tight_total}
 use Rattle.zones.proofs.Canon.{cut_canon, cut_holds, cut_back, cut_empty}
-use Rattle.zones.proofs.CodeFacts.{near_plus, near_more}
 use Rattle.zones.proofs.Decoding.{decode_below, decode_none, decode_tight, decode_plus, decode_cut, canon_same, bit_odd, tighter_first}
 use Rattle.bounds.proofs.ScaleLaws.{ScaleLaws}
 use Rattle.bounds.proofs.Apart.{close as close-numbers, normal_twice, normal_none}

@@ -1,15 +1,15 @@
 -- The codes stand for bounds: their sum, their order, and the cut
 use Rattle.zones.specs.declared.codes.Code.{Code}
-use Rattle.std.proofs.Common.{◌≡◌, ℕ, ◌+◌, ◌-◌, ◌*◌, ◌/◌, ◌%◌, ◌<◌, ◌≤◌, min, Bool, true, false, cond, ◌&&◌, eqb, ltb, ◌⊎◌, List, get_or, ℤ, pos, ◌+ℤ◌, ◌-ℤ◌, ◌≤ℤ◌, sym, refl, ap, ◌∙◌, subst, inl, inr, ⊎_elim, arith}
+use Rattle.std.proofs.Common.{◌≡◌, ℕ, ◌+◌, ◌-◌, ◌*◌, ◌/◌, ◌%◌, ◌<◌, ◌≤◌, min, Bool, true, false, ◌&&◌, eqb, ltb, List, ℤ, pos, ◌+ℤ◌, ◌-ℤ◌, sym, refl, ap, ◌∙◌, subst, ⊎_elim, arith}
 use borrow.Author.Differences.{ints}
 use Rattle.std.proofs.lemmas.Bool.Decides.{nat_tests}
 use Rattle.std.proofs.lemmas.Bool.{cases_lt, lt-ltb, le-ltb, cond-true, cond-false}
 use Rattle.bounds.specs.Bounds.{UpperBound, none, upto, plus, level, Tight, bit}
-use Rattle.zones.specs.Matrices.{tighter, Canon, Holds, cut_at}
+use Rattle.zones.specs.Matrices.{tighter, Canon, cut_at}
 use Rattle.zones.specs.Codes.{Near, code_plus, code_cut, decode, at, code_of}
-use Rattle.bounds.specs.Laws.{tight_same, tight_refl, tight_total}
+use Rattle.bounds.specs.Laws.{tight_same, tight_refl}
 use Rattle.zones.proofs.Canon.{tighter_left, tighter_right, tighter_one}
-use Rattle.zones.proofs.CodeFacts.{near_plus, near_more}
+use Rattle.zones.proofs.CodeFacts.{near_plus}
 
 pub tighter_first : (a b : UpperBound) → Tight a b → tighter a b ≡ a
 tighter_first a b h = tight_same _ _ (tighter_left a b) (tighter_one (Tight a) a b (tight_refl a) h)

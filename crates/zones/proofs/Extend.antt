@@ -1,15 +1,12 @@
 -- What the laws of a time give: one more clock, and that a canonical zone holds a state
-use Rattle.std.proofs.Common.{◌≡◌, ℕ, zero, suc, ◌+◌, ◌*◌, ◌<◌, ◌≤◌, Bool, true, false, cond, eqb, ltb, ◌⊎◌, ℤ, pos, negsuc, ◌+ℤ◌, ◌-ℤ◌, ◌*ℤ◌, ◌≤ℤ◌, ◌<ℤ◌, sym, refl, ap, ◌∙◌, subst, inl, inr, ⊎_elim, arith}
-use borrow.Author.Differences.{ints, up, down}
-use Rattle.std.proofs.lemmas.Bool.{cond-true, cond-false, cases_eq, eq-eqb, ne_eqb, lt-ltb, ltb-true}
-use Rattle.bounds.specs.Bounds.{UpperBound, none, upto, plus, level, Meets, Tight, bit}
-use Rattle.bounds.specs.Domains.{Split, Alike}
-use Rattle.zones.specs.Matrices.{tighter, Canon, Holds, cut_at}
-use Rattle.bounds.specs.Laws.{times_is, meets_looser}
+use Rattle.std.proofs.Common.{◌≡◌, ℕ, ◌<◌, Bool, true, false, cond, ℤ, ◌-ℤ◌, sym, refl, subst, arith}
+use Rattle.bounds.specs.Bounds.{UpperBound, none, upto, plus, Meets}
+use Rattle.zones.specs.Matrices.{Canon, cut_at}
+use Rattle.bounds.specs.Laws.{meets_looser}
 use Rattle.bounds.proofs.ScaleLaws.{ScaleLaws}
 use Rattle.bounds.proofs.Apart.{normal_none, normal_plus}
 use Rattle.zones.proofs.Canon.{tighter_one}
-use Rattle.zones.proofs.Helly.{Between, between, meets_scaled}
+use Rattle.zones.proofs.Helly.{Between, between}
 
 plus_none : (l : UpperBound) → plus l none ≡ none
 unfolding plus

@@ -1,14 +1,14 @@
 -- Codes that are given, and when a zone has them
-use Rattle.std.proofs.Common.{◌≡◌, ℕ, ◌+◌, ◌-◌, ◌*◌, ◌/◌, ◌%◌, ◌<◌, ◌≤◌, Bool, true, false, eqb, ◌⊎◌, List, get_or, ℤ, pos, negsuc, ◌+ℤ◌, ◌-ℤ◌, ◌<ℤ◌, Some, None, Option, sym, refl, ap, ◌∙◌, subst, inl, inr, ⊎_elim, arith}
+use Rattle.std.proofs.Common.{◌≡◌, ℕ, ◌+◌, ◌*◌, ◌/◌, ◌%◌, ◌<◌, ◌≤◌, Bool, ◌⊎◌, List, get_or, ℤ, pos, negsuc, ◌<ℤ◌, None, Option, sym, ap, ◌∙◌, subst, ⊎_elim, arith}
 use borrow.Author.Differences.{ints}
 use Rattle.std.proofs.lemmas.Bool.{cases_lt}
 use Rattle.bounds.specs.declared.bound.Bound.{Bound}
-use Rattle.bounds.specs.Bounds.{UpperBound, none, upto, plus, level, Tight}
+use Rattle.bounds.specs.Bounds.{upto, plus, Tight}
 use Rattle.bounds.specs.Sums.{bound_of}
 use Rattle.bounds.specs.Laws.{tight_refl}
 use Rattle.zones.specs.declared.codes.Code.{Code}
 use Rattle.zones.specs.Matrices.{Canon}
-use Rattle.zones.specs.Codes.{Sound, Near, at, decode, code_of, code_plus}
+use Rattle.zones.specs.Codes.{Near, at, decode, code_of, code_plus}
 use Rattle.zones.specs.Cuts.{Far}
 use Rattle.zones.specs.Given.{Given, NoZone, Direct}
 use Rattle.zones.proofs.Decoding.{decode_below, decode_none, decode_tight, decode_plus, canon_same}

@@ -1,10 +1,10 @@
 -- One more clock: where every lower and every upper bound on it agree two by two, one value meets them all, at some multiple of the scale
-use Rattle.std.proofs.Common.{◌≡◌, ℕ, zero, suc, ◌+◌, ◌*◌, ◌<◌, ◌≤◌, Bool, true, false, cond, ◌⊎◌, ℤ, pos, negsuc, ◌+ℤ◌, ◌-ℤ◌, ◌*ℤ◌, neg_ℤ, ◌≤ℤ◌, ◌<ℤ◌, sym, refl, ap, ◌∙◌, subst, inl, inr, ⊎_elim, mul_assoc, mul_comm, add-mul, arith}
+use Rattle.std.proofs.Common.{◌≡◌, ℕ, zero, suc, ◌*◌, ◌<◌, ◌≤◌, Bool, true, false, ℤ, pos, negsuc, ◌+ℤ◌, ◌-ℤ◌, ◌*ℤ◌, neg_ℤ, ◌≤ℤ◌, sym, refl, ap, ◌∙◌, subst, ⊎_elim, mul_assoc, mul_comm, add-mul, arith}
 use borrow.Author.Differences.{ints, up, down}
 use Rattle.std.proofs.lemmas.Bool.{cases_order}
-use Rattle.bounds.specs.Bounds.{UpperBound, none, upto, plus, level, Meets, Tight, bit}
+use Rattle.bounds.specs.Bounds.{UpperBound, none, upto, Meets, Tight}
 use Rattle.bounds.specs.Domains.{Split}
-use Rattle.bounds.specs.Laws.{plus_assoc, plus_comm, plus_level, tight_refl, tight_trans, tight_total, meets_plus, meets_looser, times_is, times_le, times_plus}
+use Rattle.bounds.specs.Laws.{tight_refl, tight_trans, tight_total, meets_looser, times_is, times_le, times_plus}
 
 -- the tightest of the first n + 1
 pub tightest_of : (L : ℕ → UpperBound) (n : ℕ) → (j : ℕ) × (j < suc n) × ((k : ℕ) → k < suc n → Tight (L j) (L k))

@@ -1,9 +1,9 @@
 -- Whether a difference of two readings meets a bound, in whole numbers
 use Rattle.zones.specs.declared.codes.Code.{Code}
-use Rattle.std.proofs.Common.{◌≡◌, ℕ, zero, suc, ◌+◌, ◌-◌, ◌*◌, ◌/◌, ◌%◌, ◌<◌, ◌≤◌, Bool, true, false, cond, eqb, ltb, leb, ◌⊎◌, List, length, get_or, ℤ, pos, negsuc, ◌+ℤ◌, ◌-ℤ◌, ◌*ℤ◌, ◌≤ℤ◌, ◌<ℤ◌, sym, refl, ap, ◌∙◌, subst, inl, inr, ⊎_elim, arith}
-use borrow.Author.Differences.{ints, up, down}
+use Rattle.std.proofs.Common.{◌≡◌, ℕ, ◌+◌, ◌*◌, ◌/◌, ◌%◌, ◌<◌, ◌≤◌, true, false, ltb, leb, List, ℤ, pos, negsuc, ◌-ℤ◌, ◌*ℤ◌, sym, ap, ◌∙◌, subst, arith}
+use borrow.Author.Differences.{ints}
 use Rattle.std.proofs.lemmas.Bool.{leb-true, ltb-true, le-leb, lt-ltb, eq-eqb, ne_eqb}
-use Rattle.bounds.specs.Bounds.{UpperBound, none, upto, Meets}
+use Rattle.bounds.specs.Bounds.{upto, Meets}
 use Rattle.bounds.specs.Laws.{times_is, times_plus}
 use Rattle.zones.specs.Codes.{decode, at, code_of}
 use Rattle.zones.specs.Matrices.{Holds}

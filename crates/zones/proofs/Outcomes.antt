@@ -1,15 +1,15 @@
 -- What `back`, `undo` and `within` come to, for a time of time
 use Rattle.zones.specs.declared.codes.Code.{Code}
-use Rattle.std.proofs.Common.{◌≡◌, ℕ, zero, suc, ◌+◌, ◌-◌, ◌*◌, ◌/◌, ◌%◌, ◌<◌, ◌≤◌, Bool, true, false, cond, eqb, ◌⊎◌, List, get_or, ℤ, pos, ◌-ℤ◌, ◌≤ℤ◌, sym, refl, ap, ◌∙◌, subst, inl, inr, ⊎_elim, arith}
+use Rattle.std.proofs.Common.{◌≡◌, ℕ, zero, suc, ◌+◌, ◌*◌, ◌/◌, ◌%◌, ◌<◌, ◌≤◌, Bool, true, false, cond, eqb, List, ℤ, pos, ◌-ℤ◌, sym, refl, ap, ◌∙◌, subst, ⊎_elim, arith}
 use borrow.Author.Differences.{ints}
-use Rattle.std.proofs.lemmas.Bool.{cases_Bool, cases_eq, cases_lt, cond-true, cond-false, eq-eqb, ne_eqb, both_ways}
-use Rattle.bounds.specs.Bounds.{UpperBound, none, upto, plus, level, Meets, Tight}
+use Rattle.std.proofs.lemmas.Bool.{cases_Bool, cond-true, cond-false}
+use Rattle.bounds.specs.Bounds.{UpperBound, none, plus, level, Meets, Tight}
 use Rattle.bounds.specs.Laws.{times_is}
 use Rattle.bounds.proofs.ScaleLaws.{ScaleLaws}
-use Rattle.zones.specs.Matrices.{tighter, Canon, Holds, Readings, cut_at, front_of, back_at, later, zeroed, free_at, zero_all, undo_at}
+use Rattle.zones.specs.Matrices.{tighter, Holds, Readings, cut_at, back_at, zeroed, free_at, zero_all, undo_at}
 use Rattle.zones.specs.Codes.{Near, Sound, decode, at, code_back, code_free, code_of}
 use Rattle.zones.specs.Cuts.{OfDomain}
-use Rattle.zones.specs.Resets.{Stuck, Zeroed}
+use Rattle.zones.specs.Resets.{Zeroed}
 use Rattle.zones.specs.Calls.{Leads, Inside}
 use Rattle.zones.proofs.Decoding.{canon_same, decode_tight, decode_below}
 use Rattle.zones.proofs.Extend.{normal_cut}

@@ -1,13 +1,13 @@
 -- What a zone keeps has one proof at most, so that it comes out of the truncation in its ghost field
 use Rattle.zones.specs.declared.codes.Code.{Code}
-use Rattle.std.proofs.Common.{◌≡◌, ℕ, ◌<◌, ◌≤◌, Bool, true, false, List, ℤ, pos, ◌≤ℤ◌, sym, refl, ap, ◌∙◌, subst, arith}
+use Rattle.std.proofs.Common.{◌≡◌, ℕ, Bool, true, List, ℤ, pos, ◌≤ℤ◌, refl, ap, ◌∙◌, arith}
 use mathlib.Core.Logic.{∥∥₁_elim}
 use mathlib.Core.Bool.{Bool-discrete}
 use mathlib.Core.HLevel.{Discrete, hedberg, Π_prop, ×_prop, →_prop, ⊥_prop, Unit-prop}
 use native.Mathlib.Bridge.{le_prop}
 use lib.Dec.{T_prop}
 use lib.IntN.{ℤ_discrete}
-use Rattle.bounds.specs.Bounds.{UpperBound, none, upto, plus, level, Tight}
+use Rattle.bounds.specs.Bounds.{UpperBound, none, upto, level, Tight}
 use Rattle.zones.specs.Matrices.{Canon}
 use Rattle.zones.specs.Codes.{Near, Sound, at}
 

@@ -1,10 +1,10 @@
 -- A zone with some clocks let go is canonical, and exact
-use Rattle.std.proofs.Common.{◌≡◌, ℕ, zero, suc, ◌+◌, ◌*◌, ◌<◌, ◌≤◌, Bool, true, false, cond, eqb, ◌⊎◌, ℤ, pos, negsuc, ◌+ℤ◌, ◌-ℤ◌, ◌*ℤ◌, neg_ℤ, ◌≤ℤ◌, ◌<ℤ◌, sym, refl, ap, ◌∙◌, subst, inl, inr, ⊎_elim, arith}
-use borrow.Author.Differences.{ints, up, down}
+use Rattle.std.proofs.Common.{◌≡◌, ℕ, ◌<◌, ◌≤◌, Bool, true, false, ℤ, pos, ◌-ℤ◌, ◌≤ℤ◌, sym, refl, ap, ◌∙◌, subst, ⊎_elim, arith}
+use borrow.Author.Differences.{ints}
 use Rattle.std.proofs.lemmas.Bool.{cases_eq, cases_Bool, cond-true, cond-false, eq-eqb, ne_eqb}
-use Rattle.bounds.specs.Bounds.{UpperBound, none, upto, plus, level, Meets, Tight, bit}
-use Rattle.zones.specs.Matrices.{tighter, Canon, Holds, zeroed, free_at}
-use Rattle.bounds.specs.Laws.{plus_comm, plus_level, tight_refl, tight_trans, tight_same, tight_plus, times_is, meets_looser}
+use Rattle.bounds.specs.Bounds.{UpperBound, none, upto, plus, level, Meets, Tight}
+use Rattle.zones.specs.Matrices.{Canon, Holds, zeroed, free_at}
+use Rattle.bounds.specs.Laws.{plus_comm, plus_level, tight_refl, tight_trans, tight_plus, times_is, meets_looser}
 
 lower : (D : ℕ) (d e : ℤ) (l : UpperBound) → e ≤ℤ d → Meets D d l → Meets D e l
 unfolding Meets

@@ -1,11 +1,10 @@
 -- A zone lies within another exactly if it is as tight at every (i, j)
-use Rattle.std.proofs.Common.{◌≡◌, ℕ, zero, suc, ◌+◌, ◌*◌, ◌<◌, ◌≤◌, Bool, true, false, cond, ◌⊎◌, ℤ, pos, negsuc, ◌+ℤ◌, ◌-ℤ◌, ◌*ℤ◌, neg_ℤ, ◌≤ℤ◌, ◌<ℤ◌, sym, refl, ap, ◌∙◌, subst, inl, inr, ⊎_elim, mul-one, arith}
-use borrow.Author.Differences.{ints, up, down}
+use Rattle.std.proofs.Common.{◌≡◌, ℕ, ◌<◌, ◌≤◌, Bool, true, false, ℤ, pos, ◌+ℤ◌, ◌-ℤ◌, ◌*ℤ◌, neg_ℤ, refl, subst, arith}
+use borrow.Author.Differences.{ints}
 use Rattle.std.proofs.lemmas.Int.{by_lt_z}
-use Rattle.bounds.specs.Bounds.{UpperBound, none, upto, plus, level, Meets, Tight, bit}
-use Rattle.bounds.specs.Domains.{Split, Alike}
+use Rattle.bounds.specs.Bounds.{UpperBound, none, upto, plus, level, Meets, Tight}
 use Rattle.zones.specs.Matrices.{Canon, Holds, cut_at}
-use Rattle.bounds.specs.Laws.{times_is, times_le, times_plus, meets_looser, meets_plus}
+use Rattle.bounds.specs.Laws.{meets_looser, meets_plus}
 use Rattle.zones.proofs.Helly.{neg_times}
 use Rattle.zones.proofs.Canon.{cut_canon, cut_back, zero_meets}
 use Rattle.bounds.proofs.ScaleLaws.{ScaleLaws}

@@ -1,11 +1,11 @@
 -- Cutting clocks to 0, one after the other
 use Rattle.zones.specs.declared.codes.Code.{Code}
-use Rattle.std.proofs.Common.{◌≡◌, ℕ, zero, suc, ◌+◌, ◌-◌, ◌*◌, ◌/◌, ◌%◌, ◌<◌, ◌≤◌, min, Bool, true, false, cond, eqb, ltb, ◌⊎◌, List, get_or, ℤ, pos, ◌-ℤ◌, sym, refl, ap, ◌∙◌, subst, inl, inr, ⊎_elim, add-one, arith}
+use Rattle.std.proofs.Common.{◌≡◌, ℕ, suc, ◌+◌, ◌*◌, ◌/◌, ◌%◌, ◌<◌, ◌≤◌, min, Bool, true, false, cond, List, ℤ, pos, ◌-ℤ◌, sym, refl, ap, ◌∙◌, subst, ⊎_elim, add-one, arith}
 use borrow.Author.Differences.{ints}
 use Rattle.std.proofs.lemmas.Bool.Decides.{nat_tests}
-use Rattle.std.proofs.lemmas.Bool.{cases_lt, cases_eq, cases_Bool, cond-true, cond-false}
-use Rattle.bounds.specs.Bounds.{UpperBound, none, upto, plus, level, Meets, Tight}
-use Rattle.bounds.specs.Laws.{plus_comm, plus_level, tight_refl, tight_trans, tight_plus, times_is, meets_looser}
+use Rattle.std.proofs.lemmas.Bool.{cases_eq, cases_Bool, cond-true, cond-false}
+use Rattle.bounds.specs.Bounds.{UpperBound, plus, level, Meets, Tight}
+use Rattle.bounds.specs.Laws.{plus_comm, plus_level, tight_refl, tight_trans, tight_plus, times_is}
 use Rattle.zones.specs.Matrices.{tighter, Canon, Holds, cut_at, zeroed, zero_all}
 use Rattle.zones.specs.Codes.{Near, Sound, decode, at, code_plus, code_cut, code_of}
 use Rattle.zones.specs.Resets.{Stuck, Zeroed}

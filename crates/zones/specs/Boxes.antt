@@ -1,6 +1,6 @@
 -- Boxes: eight sides, one for each of the clocks 1 to 8, cut clock by clock, the lower bound first.
 use Rattle.zones.specs.declared.codes.Code.{Code}
-use Rattle.std.specs.Prelude.{◌≡◌, ℕ, zero, suc, ◌+◌, ◌/◌, ◌%◌, ◌<◌, Bool, true, false, cond, List, ℤ, pos, ◌-ℤ◌, neg_ℤ, ◌≤ℤ◌, Some, None, Ok, Err, Result, ◌==◌, slice_index_or}
+use Rattle.std.specs.Prelude.{◌≡◌, ℕ, zero, suc, ◌+◌, ◌/◌, ◌%◌, ◌<◌, Bool, true, cond, List, ℤ, pos, ◌-ℤ◌, neg_ℤ, ◌≤ℤ◌, None, Ok, Err, Result, ◌==◌, slice_index_or}
 use Rattle.bounds.specs.Bounds.{UpperBound, none, upto, Meets}
 use Rattle.bounds.specs.Sums.{bound_of}
 use Rattle.bounds.specs.declared.refusal.Refusal.{Refusal}

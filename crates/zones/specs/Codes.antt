@@ -1,6 +1,6 @@
 -- A bound's code: 2 (c + 16777216) + 1 for `<= c`, 2 (c + 16777216) for `< c`, and 4294967295 for none, so that the tighter has the smaller code.
 use Rattle.zones.specs.declared.codes.Code.{Code}
-use Rattle.std.specs.Prelude.{◌≡◌, ℕ, zero, suc, ◌+◌, ◌-◌, ◌*◌, ◌/◌, ◌%◌, ◌<◌, ◌≤◌, min, Bool, true, false, cond, ◌||◌, List, ℤ, pos, ◌+ℤ◌, ◌-ℤ◌, ◌==◌, nat_lt, slice_index_or}
+use Rattle.std.specs.Prelude.{ℕ, zero, suc, ◌+◌, ◌-◌, ◌*◌, ◌/◌, ◌%◌, ◌<◌, ◌≤◌, min, Bool, cond, ◌||◌, List, pos, ◌-ℤ◌, ◌==◌, nat_lt, slice_index_or}
 use Rattle.bounds.specs.Bounds.{UpperBound, none, upto}
 use Rattle.zones.specs.Matrices.{Canon}
 

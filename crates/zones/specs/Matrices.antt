@@ -1,5 +1,5 @@
 -- Zones as matrices: from two clocks i and j to the upper bound on reading i minus reading j.
-use Rattle.std.specs.Prelude.{◌≡◌, ℕ, zero, suc, ◌<◌, Bool, true, false, cond, ℤ, pos, ◌+ℤ◌, ◌-ℤ◌, ◌*ℤ◌, ◌≤ℤ◌, ◌==◌, int_le}
+use Rattle.std.specs.Prelude.{◌≡◌, ℕ, zero, suc, ◌<◌, Bool, cond, ℤ, pos, ◌+ℤ◌, ◌-ℤ◌, ◌*ℤ◌, ◌≤ℤ◌, ◌==◌, int_le}
 use Rattle.bounds.specs.Bounds.{UpperBound, none, upto, plus, level, Meets, Tight, bit}
 
 -- the tighter of two

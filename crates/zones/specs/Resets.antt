@@ -1,7 +1,7 @@
 -- Clocks that are set to 0.
 use Rattle.zones.specs.declared.codes.Code.{Code}
 use Rattle.std.specs.Prelude.{◌≡◌, ℕ, zero, suc, ◌<◌, ◌≤◌, Bool, true, false, ◌&&◌, ◌||◌, List, length, ℤ, pos, ◌-ℤ◌, ◌==◌, nat_lt, slice_index}
-use Rattle.bounds.specs.Bounds.{UpperBound, level, Meets, Tight}
+use Rattle.bounds.specs.Bounds.{level, Meets, Tight}
 use Rattle.zones.specs.Matrices.{Holds, zeroed, zero_all}
 use Rattle.zones.specs.Codes.{Sound, at}
 

@@ -1,6 +1,6 @@
-use Rattle.std.proofs.Common.{◌≡◌, Bool, ◌&&◌, ◌⊎◌, ℤ, pos, negsuc, ◌+ℤ◌, ◌≤ℤ◌, ◌<ℤ◌, sym, refl, ap, ◌∙◌, subst, inl, inr, ⊎_elim, arith, w32, SFits, rules}
+use Rattle.std.proofs.Common.{◌≡◌, Bool, ◌&&◌, ◌⊎◌, ℤ, pos, negsuc, ◌+ℤ◌, ◌≤ℤ◌, ◌<ℤ◌, refl, ap, ◌∙◌, inl, inr, ⊎_elim, arith, w32, SFits, rules}
 use borrow.Author.Differences.{ints}
-use Rattle.bounds.specs.Bounds.{UpperBound, none, upto, plus}
+use Rattle.bounds.specs.Bounds.{upto, plus}
 use Rattle.bounds.specs.Sums.{Vast}
 use Rattle.bounds.proofs.bound.add.Goals as goal
 

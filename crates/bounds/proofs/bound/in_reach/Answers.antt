@@ -1,4 +1,4 @@
-use Rattle.std.proofs.Common.{◌≡◌, ℕ, Bool, true, false, ◌⊎◌, sym, refl, inl, inr, ⊎_elim, arith, w32, SFits, rules}
+use Rattle.std.proofs.Common.{◌≡◌, ℕ, true, false, sym, inl, inr, ⊎_elim, arith, w32, SFits, rules}
 use borrow.Author.Differences.{ints}
 use Rattle.bounds.specs.Sums.{Vast}
 use Rattle.bounds.proofs.bound.in_reach.Goals as goal

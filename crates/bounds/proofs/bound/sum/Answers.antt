@@ -1,6 +1,6 @@
-use Rattle.std.proofs.Common.{◌≡◌, ℕ, Some, None, sym, refl, ap, ◌∙◌, subst, arith}
+use Rattle.std.proofs.Common.{◌≡◌, ℕ, refl, ap, arith}
 use Rattle.bounds.specs.Bounds.{UpperBound, none, upto, plus}
-use Rattle.bounds.specs.Sums.{Vast, bound_of, SumSays}
+use Rattle.bounds.specs.Sums.{Vast, bound_of}
 use Rattle.bounds.proofs.bound.sum.Goals as goal
 
 left : (a b : UpperBound) → a ≡ none → (none ≡ plus a b) × (Vast (plus a b) → ⊥)

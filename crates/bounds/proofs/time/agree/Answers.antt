@@ -1,4 +1,4 @@
-use Rattle.std.proofs.Common.{◌≡◌, sym, ◌∙◌}
+use Rattle.std.proofs.Common.{sym, ◌∙◌}
 use Rattle.bounds.proofs.Apart.{alike_normal, normal_alike}
 use Rattle.bounds.proofs.time.agree.Goals as goal
 

@@ -1,5 +1,5 @@
 use Rattle.std.proofs.Common.{◌≡◌, sym, ap, ◌∙◌, subst}
-use Rattle.bounds.specs.Bounds.{UpperBound, none}
+use Rattle.bounds.specs.Bounds.{none}
 use Rattle.bounds.specs.Sums.{bound_of, Vast}
 use Rattle.bounds.proofs.ScaleLaws.{scale_laws}
 use Rattle.bounds.proofs.Apart.{normal_none}

@@ -1,4 +1,4 @@
-use Rattle.std.proofs.Common.{◌≡◌, ℕ, ◌≤◌, min, length, get_or, take, drop}
+use Rattle.std.proofs.Common.{◌≡◌, min, take, drop}
 use Rattle.std.specs.Str.{all_ascii_digits}
 use Rattle.std.specs.Str.Parse.{digits_value}
 use Rattle.byte_text.proofs.numerals.number_to.Given as goal

@@ -1,5 +1,5 @@
 use Rattle.std.proofs.Common.{arith}
-use Rattle.distances.proofs.Covering.{looked_none, looked_more, looked_hit, looked_all}
+use Rattle.distances.proofs.Covering.{looked_more, looked_hit, looked_all}
 use Rattle.distances.proofs.cover.is_covered.Goals as goal
 
 pub returns-then-entry_covers : goal.returns-then-entry_covers

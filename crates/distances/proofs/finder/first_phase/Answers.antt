@@ -1,4 +1,4 @@
-use Rattle.std.proofs.Common.{◌≡◌, sym, ◌∙◌}
+use Rattle.std.proofs.Common.{sym, ◌∙◌}
 use Rattle.distances.proofs.Asked.{some_entries, all_fit}
 use Rattle.distances.proofs.finder.first_phase.Goals as goal
 

@@ -1,4 +1,4 @@
-use Rattle.std.proofs.Common.{◌≡◌, sym, ◌∙◌, arith}
+use Rattle.std.proofs.Common.{sym, ◌∙◌, arith}
 use Rattle.distances.proofs.Asked.{not_askable, good_askable, askable_good}
 use Rattle.distances.proofs.finder.is_askable.Goals as goal
 

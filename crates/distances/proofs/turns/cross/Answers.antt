@@ -1,4 +1,4 @@
-use Rattle.std.proofs.Common.{Err, refl, arith}
+use Rattle.std.proofs.Common.{Err, refl}
 use Rattle.distances.proofs.Turning.{unlikely, elsewhere, no_move_there, crossed}
 use Rattle.distances.proofs.turns.cross.Goals as goal
 

@@ -1,4 +1,4 @@
-use Rattle.std.proofs.Common.{sym, refl, ◌∙◌, arith}
+use Rattle.std.proofs.Common.{◌∙◌, arith}
 use Rattle.distances.proofs.Turning.{across_begins, across_on, across_off, across_end}
 use Rattle.distances.proofs.turns.from_entry.Goals as goal
 

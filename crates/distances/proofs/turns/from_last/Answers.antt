@@ -1,4 +1,4 @@
-use Rattle.std.proofs.Common.{sym, refl, ◌∙◌, arith}
+use Rattle.std.proofs.Common.{refl}
 use Rattle.distances.proofs.Turning.{other_round, this_round}
 use Rattle.distances.proofs.turns.from_last.Goals as goal
 

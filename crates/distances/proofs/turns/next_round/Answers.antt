@@ -1,4 +1,4 @@
-use Rattle.std.proofs.Common.{sym, refl, ◌∙◌, arith}
+use Rattle.std.proofs.Common.{sym, ◌∙◌, arith}
 use Rattle.distances.proofs.Turning.{next_begins, next_on, next_off, next_end}
 use Rattle.distances.proofs.turns.next_round.Goals as goal
 

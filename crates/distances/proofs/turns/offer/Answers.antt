@@ -1,4 +1,4 @@
-use Rattle.std.proofs.Common.{◌≡◌, ◌^◌, ◌<◌, Ok, Err, sym, refl, ap, ◌∙◌, subst, rules}
+use Rattle.std.proofs.Common.{◌^◌, ◌<◌, Ok, refl, subst, rules}
 use Rattle.starts.specs.Told.{Tells}
 use Rattle.distances.proofs.Offering.{lawful_of, offer_refused, offer_none, offer_dropped, offer_put}
 use Rattle.distances.proofs.turns.offer.Goals as goal

@@ -1,11 +1,7 @@
-use Rattle.std.proofs.Common.{◌≡◌, ℕ, ◌/◌, ◌%◌, ◌<◌, true, false, length, get_or, None, sym, refl, ap, ◌∙◌, subst, arith, rules}
+use Rattle.std.proofs.Common.{◌≡◌, ℕ, ◌/◌, ◌%◌, ◌<◌, false, length, sym, refl, ap, ◌∙◌, subst, rules}
 use Rattle.std.proofs.lemmas.Bool.{both_ways}
-use Rattle.bounds.specs.Sums.{bound_of}
-use Rattle.zones.specs.Given.{Given}
 use Rattle.zones.proofs.Props.{sound}
-use Rattle.entries.specs.declared.entry.Entry.{Entry}
 use Rattle.entries.specs.Entries.{IsEntry, whole, bounds_at}
-use Rattle.entries.specs.Reading.{Drawn}
 use Rattle.entries.proofs.Same.{whole_given, given_same, same_entry}
 use Rattle.entries.proofs.lines.found.Goals as goal
 

@@ -1,4 +1,4 @@
-use Rattle.std.proofs.Common.{◌≡◌, ◌+◌, ◌*◌, ◌/◌, ◌%◌, get_or, pos, Some, None, sym, ap, ◌∙◌, arith}
+use Rattle.std.proofs.Common.{◌≡◌, ◌+◌, ◌*◌, ◌/◌, ◌%◌, get_or, Some, None, ap, ◌∙◌, arith}
 use Rattle.bounds.specs.Sums.{bound_of}
 use Rattle.entries.specs.Entries.{bounds_at}
 use Rattle.entries.proofs.Wholes.{whole_same, whole_none, whole_kept, whole_zero, whole_first}

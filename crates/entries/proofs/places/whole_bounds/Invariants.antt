@@ -1,6 +1,5 @@
 use Rattle.std.proofs.Common.{◌≡◌, ℕ, ◌/◌, ◌%◌, ◌<◌, length, get_or, None}
 use Rattle.bounds.specs.Sums.{bound_of}
-use Rattle.zones.specs.Codes.{at}
 use Rattle.entries.specs.Entries.{whole, bounds_at}
 use Rattle.entries.proofs.places.whole_bounds.Given as goal
 

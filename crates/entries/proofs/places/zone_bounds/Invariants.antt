@@ -1,7 +1,6 @@
 use Rattle.std.proofs.Common.{◌≡◌, ℕ, ◌/◌, ◌%◌, ◌<◌, length, get_or, None}
 use Rattle.bounds.specs.Sums.{bound_of}
 use Rattle.zones.specs.Codes.{at}
-use Rattle.entries.specs.Entries.{whole, bounds_at}
 use Rattle.entries.proofs.places.zone_bounds.Given as goal
 
 abbrev pub invariant-loop-p : goal.invariant-loop-p

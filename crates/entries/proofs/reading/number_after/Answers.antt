@@ -1,4 +1,4 @@
-use Rattle.std.proofs.Common.{◌≡◌, ◌-◌, Bool, drop, sym, ap, ◌∙◌}
+use Rattle.std.proofs.Common.{Bool, drop, sym, ap, ◌∙◌}
 use Rattle.entries.specs.Reading.{signed_of, before_number}
 use Rattle.entries.proofs.ReadSteps.{rest}
 use Rattle.entries.proofs.reading.number_after.Goals as goal

@@ -1,8 +1,8 @@
-use Rattle.std.proofs.Common.{◌≡◌, ℕ, ◌<◌, List, length, set, Some, None, Option, sym, refl, ap, ◌∙◌, arith, length-set, rules}
+use Rattle.std.proofs.Common.{ℕ, ◌<◌, List, set, Some, Option, sym, ap, ◌∙◌, length-set, rules}
 use Rattle.bounds.specs.declared.bound.Bound.{Bound}
 use Rattle.byte_text.specs.Parts.{Place, ahead, tail_places}
-use Rattle.entries.specs.Reading.{item_of, noted, bounds_from}
-use Rattle.entries.proofs.ReadSteps.{item_place, bounds_step, bounds_end, ahead_less}
+use Rattle.entries.specs.Reading.{noted, bounds_from}
+use Rattle.entries.proofs.ReadSteps.{item_place, bounds_step, bounds_end}
 use Rattle.entries.proofs.reading.read_bounds.Goals as goal
 
 pub bounds-bounds-place : goal.bounds-bounds-place

@@ -1,7 +1,7 @@
-use Rattle.std.proofs.Common.{◌≡◌, ℕ, ◌+◌, List, [], get_or, replicate, Some, None, Option, sym, refl, ap, ◌∙◌}
+use Rattle.std.proofs.Common.{List, [], get_or, None, Option, refl, ap, ◌∙◌}
 use Rattle.bounds.specs.declared.bound.Bound.{Bound}
 use Rattle.bounds.specs.Sums.{bound_of}
-use Rattle.byte_text.specs.Parts.{Place, place, ahead, tail_places, within}
+use Rattle.byte_text.specs.Parts.{ahead, tail_places}
 use Rattle.entries.proofs.Drafts.{clash, no_number, same_part, same_number, walk, head_0, head_1, head_2, head_3, position_back, round_back, all_back}
 use Rattle.entries.proofs.reading.read_draft.Goals as goal
 

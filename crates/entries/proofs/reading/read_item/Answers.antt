@@ -1,4 +1,4 @@
-use Rattle.std.proofs.Common.{◌≡◌, ◌+◌, ◌-◌, ◌*◌, eqb, get_or, Some, None, sym, ap, ◌∙◌, to_z-of_z, w32, SFits, rules}
+use Rattle.std.proofs.Common.{◌+◌, ◌-◌, ◌*◌, eqb, get_or, Some, sym, ap, ◌∙◌, to_z-of_z, w32, SFits, rules}
 use Rattle.entries.specs.Reading.{with_number}
 use Rattle.entries.proofs.ReadSteps.{item_short, item_first, item_third, item_whole}
 use Rattle.entries.proofs.reading.read_item.Goals as goal

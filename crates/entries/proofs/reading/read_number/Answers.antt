@@ -1,4 +1,4 @@
-use Rattle.std.proofs.Common.{◌≡◌, ℕ, List, ap, ◌∙◌}
+use Rattle.std.proofs.Common.{ℕ, List, ap, ◌∙◌}
 use Rattle.byte_text.specs.Numerals.{number_to}
 use Rattle.entries.specs.Reading.{below}
 use Rattle.entries.proofs.ReadSteps.{rest, signed_minus, signed_plain, no_first}

@@ -1,8 +1,7 @@
-use Rattle.std.proofs.Common.{◌≡◌, ℕ, ◌+◌, ◌/◌, ◌%◌, cond, List, [], ◌∷◌, ◌++◌, length, sym, refl, ap, ◌∙◌, subst, append_assoc, arith, to_z-of_z, w32, SFits, rules}
+use Rattle.std.proofs.Common.{ℕ, ◌+◌, ◌/◌, ◌%◌, cond, List, [], ◌∷◌, ◌++◌, refl, ap, ◌∙◌, append_assoc, to_z-of_z, w32, SFits, rules}
 use Rattle.std.specs.Fmt.{signed_decimal}
 use Rattle.std.proofs.lemmas.Result.{err_from_is_err_and}
-use Rattle.byte_text.specs.Lines.{text, AddSays}
-use Rattle.entries.specs.Adding.{AddedSays}
+use Rattle.byte_text.specs.Lines.{text}
 use Rattle.entries.specs.Lines.{equals, item}
 use Rattle.entries.proofs.Steps.{on, short, last}
 use Rattle.entries.proofs.written.add_bound.Goals as goal

@@ -1,9 +1,9 @@
-use Rattle.std.proofs.Common.{◌≡◌, ℕ, ◌+◌, ◌≤◌, List, [], ◌∷◌, ◌++◌, length, sym, refl, ap, ◌∙◌, subst, append_assoc, append-nil, arith, length-append}
+use Rattle.std.proofs.Common.{◌+◌, ◌++◌, length, sym, ap, ◌∙◌, append-nil, arith, length-append}
 use Rattle.std.proofs.lemmas.Result.{err_from_is_err_and}
 use Rattle.zones.specs.Codes.{at}
 use Rattle.byte_text.specs.Lines.{text}
 use Rattle.entries.specs.Lines.{items, some, commas, seen}
-use Rattle.entries.specs.Adding.{placed, any_with}
+use Rattle.entries.specs.Adding.{placed}
 use Rattle.entries.proofs.Steps.{on}
 use Rattle.entries.proofs.Items.{items_none, commas_more, any_more, commas_longer}
 use Rattle.entries.proofs.written.add_bounds.Goals as goal

@@ -1,4 +1,4 @@
-use Rattle.std.proofs.Common.{◌≡◌, sym, ap, ◌∙◌}
+use Rattle.std.proofs.Common.{sym, ap, ◌∙◌}
 use Rattle.zones.specs.declared.zone.Zone.{Zone}
 use Rattle.rounds.specs.Codes.Remains.{kept}
 use Rattle.starts.proofs.Calling.{back_kept}

@@ -1,4 +1,4 @@
-use Rattle.std.proofs.Common.{arith, rules}
+use Rattle.std.proofs.Common.{arith}
 use Rattle.starts.proofs.Listed.{listed}
 use Rattle.starts.proofs.calls.clocks_of.Goals as goal
 

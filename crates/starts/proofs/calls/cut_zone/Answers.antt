@@ -1,4 +1,4 @@
-use Rattle.std.proofs.Common.{◌≡◌, Ok, sym, ap, ◌∙◌, subst}
+use Rattle.std.proofs.Common.{Ok, sym, ap, ◌∙◌, subst}
 use Rattle.bounds.specs.Domains.{scales}
 use Rattle.zones.specs.Boxes.{BoxSays}
 use Rattle.zones.specs.declared.zone.Zone.{Zone}

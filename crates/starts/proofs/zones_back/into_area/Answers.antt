@@ -1,4 +1,4 @@
-use Rattle.std.proofs.Common.{◌≡◌, sym, ap}
+use Rattle.std.proofs.Common.{sym, ap}
 use Rattle.rounds.specs.Codes.{then, whole, cut_box, back_zone}
 use Rattle.rounds.specs.Codes.Remains.{kept}
 use Rattle.starts.proofs.Calling.{all_of, cut_of, back_of}

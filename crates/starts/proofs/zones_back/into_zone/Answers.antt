@@ -1,4 +1,3 @@
-use Rattle.std.proofs.Common.{◌≡◌, sym, ap}
 use Rattle.rounds.specs.Codes.{then, cut_box, back_zone, undo_zone}
 use Rattle.rounds.specs.Rounds.{resets_of}
 use Rattle.starts.proofs.Calling.{undo_of, cut_of, back_of}

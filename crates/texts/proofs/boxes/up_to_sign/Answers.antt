@@ -1,4 +1,4 @@
-use Rattle.std.proofs.Common.{arith, rules}
+use Rattle.std.proofs.Common.{rules}
 use Rattle.texts.proofs.BoxSteps.{sign_on, sign_upper, sign_lower, sign_none}
 use Rattle.texts.proofs.boxes.up_to_sign.Goals as goal
 

@@ -1,4 +1,4 @@
-use Rattle.std.proofs.Common.{◌≡◌, ℕ, List, [], ◌∷◌, ◌++◌, decimal, sym, ap, ◌∙◌, arith}
+use Rattle.std.proofs.Common.{◌≡◌, ℕ, [], ◌∷◌, ◌++◌, decimal, ap, ◌∙◌}
 use Rattle.bounds.specs.Refusals.{number}
 use Rattle.byte_text.specs.Lines.{text}
 use Rattle.texts.proofs.Telling.{told_so}

@@ -1,7 +1,7 @@
-use Rattle.std.proofs.Common.{◌≡◌, ℕ, ◌+◌, Ok, Err, sym, refl, ap, ◌∙◌, subst, arith, rules}
+use Rattle.std.proofs.Common.{◌≡◌, ◌+◌, Ok, Err, sym, refl, ap, ◌∙◌, subst}
 use Rattle.std.proofs.lemmas.Result.{err_from_is_err_and}
-use Rattle.texts.specs.PlanRows.{tables, SameSlices}
-use Rattle.byte_text.specs.Parts.{place, parted}
+use Rattle.texts.specs.PlanRows.{tables}
+use Rattle.byte_text.specs.Parts.{place}
 use Rattle.texts.specs.Faults.{fault, faulty}
 use Rattle.texts.specs.Readers.{lines_ahead, rest_of}
 use Rattle.texts.specs.States.{state, Sound}

@@ -1,4 +1,4 @@
-use Rattle.std.proofs.Common.{◌≡◌, ℕ, ◌-◌, get_or, ap, ◌∙◌, subst}
+use Rattle.std.proofs.Common.{ℕ, ◌-◌, get_or, ap, ◌∙◌}
 use Rattle.plans.specs.declared.rows.Move.{Move}
 use Rattle.plans.specs.RowLists.{no_move}
 use Rattle.plans.proofs.Taken.{row_is}

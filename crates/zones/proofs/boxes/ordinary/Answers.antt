@@ -1,6 +1,6 @@
 use Rattle.std.proofs.Common.{◌≡◌, ℕ, Bool, true, false, ℤ, pos, ◌≤ℤ◌, ◌<ℤ◌, sym, ap, subst, arith, w32, SFits, rules}
 use borrow.Author.Differences.{ints}
-use Rattle.bounds.specs.Bounds.{UpperBound, none, upto}
+use Rattle.bounds.specs.Bounds.{none, upto}
 use Rattle.bounds.specs.Sums.{bound_of}
 use Rattle.zones.specs.Boxes.{Ordinary}
 use Rattle.zones.proofs.boxes.ordinary.Goals as goal

@@ -1,7 +1,7 @@
-use Rattle.std.proofs.Common.{◌≡◌, ◌/◌, Bool, true, false, ℤ, pos, ◌-ℤ◌, neg_ℤ, ◌≤ℤ◌, sym, refl, ap, ◌∙◌, subst, arith, w32, SFits, rules}
+use Rattle.std.proofs.Common.{◌≡◌, ◌/◌, Bool, ℤ, pos, neg_ℤ, ◌≤ℤ◌, sym, refl, ap, ◌∙◌, subst, arith, w32, SFits, rules}
 use borrow.Author.Differences.{ints}
 use Rattle.std.proofs.lemmas.Bool.{cond-true, cond-false, eq-eqb, ne_eqb}
-use Rattle.bounds.specs.Bounds.{UpperBound, none, upto}
+use Rattle.bounds.specs.Bounds.{none, upto}
 use Rattle.bounds.specs.Sums.{bound_of}
 use Rattle.zones.specs.Boxes.{Ordinary, turned, box_bound}
 use Rattle.zones.proofs.boxes.step_bound.Goals as goal

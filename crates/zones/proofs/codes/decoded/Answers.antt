@@ -1,6 +1,5 @@
-use Rattle.std.proofs.Common.{sym, ap, ◌∙◌, arith}
+use Rattle.std.proofs.Common.{arith}
 use borrow.Author.Differences.{ints}
-use Rattle.bounds.specs.Bounds.{upto}
 use Rattle.zones.proofs.Decoding.{lim_at}
 use Rattle.zones.proofs.codes.decoded.Goals as goal
 

@@ -1,4 +1,4 @@
-use Rattle.std.proofs.Common.{◌≡◌, ℕ, ◌+◌, ◌<◌, true, false, ◌⊎◌, sym, ⊎_elim, arith, below_more}
+use Rattle.std.proofs.Common.{◌≡◌, ℕ, ◌+◌, ◌<◌, true, false, ⊎_elim, arith, below_more}
 use Rattle.std.proofs.lemmas.Bool.{and_parts, and_cases, both_ways}
 use Rattle.zones.specs.Codes.{Near, code_of}
 use Rattle.zones.proofs.codes.in_range.Goals as goal

@@ -1,4 +1,4 @@
-use Rattle.std.proofs.Common.{◌≡◌, ◌+◌, ◌*◌, ◌/◌, ◌%◌, ◌<◌, min, ◌≢◌, length, sym, refl, ap, ◌∙◌, subst, arith, length-set, below_more}
+use Rattle.std.proofs.Common.{◌+◌, ◌*◌, ◌/◌, ◌%◌, ◌<◌, min, ◌≢◌, length, sym, refl, ap, ◌∙◌, subst, arith, length-set, below_more}
 use Rattle.zones.specs.Codes.{Near, code_of}
 use Rattle.zones.proofs.Written.{code_same, code_other}
 use Rattle.zones.proofs.CodeFacts.{near_plus, near_more, best_is}

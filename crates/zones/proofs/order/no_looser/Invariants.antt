@@ -1,5 +1,5 @@
 use Rattle.zones.specs.Codes.{code_of}
-use Rattle.std.proofs.Common.{ℕ, ◌<◌, ◌≤◌, length, get_or}
+use Rattle.std.proofs.Common.{ℕ, ◌<◌, ◌≤◌}
 use Rattle.zones.proofs.order.no_looser.Given as goal
 
 abbrev pub invariant-loop-p : goal.invariant-loop-p

@@ -1,5 +1,5 @@
-use Rattle.std.proofs.Common.{◌≡◌, ℕ, ◌<◌, false, cond, length, get_or}
-use Rattle.zones.specs.Codes.{code_back, code_free, code_cut, code_of}
+use Rattle.std.proofs.Common.{◌≡◌, ℕ, ◌<◌, cond, length}
+use Rattle.zones.specs.Codes.{code_cut, code_of}
 use Rattle.zones.proofs.resets.zero_one.Given as goal
 
 abbrev pub invariant-loop-p : goal.invariant-loop-p

@@ -1,8 +1,6 @@
-use Rattle.std.proofs.Common.{◌≡◌, ℕ, ◌+◌, ◌*◌, ◌/◌, ◌%◌, ◌<◌, true, false, get_or, pos, ◌-ℤ◌, sym, refl, ap, ◌∙◌, subst, arith, below_more}
+use Rattle.std.proofs.Common.{◌≡◌, ℕ, true, false, refl, arith, below_more}
 use Rattle.std.proofs.lemmas.Bool.{both_ways}
-use Rattle.bounds.specs.Bounds.{Meets}
-use Rattle.zones.specs.Codes.{decode, code_of}
-use Rattle.zones.specs.States.{value_of, reading}
+use Rattle.zones.specs.Codes.{code_of}
 use Rattle.zones.proofs.Meeting.{held_at, held_from, held_all}
 use Rattle.zones.proofs.state.met.Goals as goal
 

@@ -1,4 +1,4 @@
-use Rattle.std.proofs.Common.{ℕ, ◌/◌, ◌%◌, ◌<◌, ◌≤◌, length, get_or, pos, ◌-ℤ◌}
+use Rattle.std.proofs.Common.{ℕ, ◌/◌, ◌%◌, ◌<◌, ◌-ℤ◌}
 use Rattle.bounds.specs.Bounds.{Meets}
 use Rattle.zones.specs.Codes.{decode, code_of}
 use Rattle.zones.specs.States.{reading}

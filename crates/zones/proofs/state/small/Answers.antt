@@ -1,5 +1,4 @@
-use Rattle.std.proofs.Common.{◌≡◌, ℕ, true, false, sym, refl, arith}
-use Rattle.std.proofs.lemmas.Bool.{both_ways}
+use Rattle.std.proofs.Common.{◌≡◌, ℕ, true, false, sym, arith}
 use Rattle.zones.proofs.state.small.Goals as goal
 
 differ : {A : Type 0} → true ≡ false → A

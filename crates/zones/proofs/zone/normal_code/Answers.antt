@@ -1,6 +1,5 @@
-use Rattle.std.proofs.Common.{◌≡◌, sym, refl, ap, ◌∙◌, arith, w32, SFits, rules}
-use borrow.Author.Differences.{ints}
-use Rattle.zones.proofs.CutFacts.{same_bound, not_vast}
+use Rattle.std.proofs.Common.{sym, refl, ap, ◌∙◌, arith, w32, SFits, rules}
+use Rattle.zones.proofs.CutFacts.{not_vast}
 use Rattle.zones.proofs.Decoding.{decode_none}
 use Rattle.bounds.proofs.ScaleLaws.{scale_laws}
 use Rattle.bounds.proofs.Apart.{normal_none}

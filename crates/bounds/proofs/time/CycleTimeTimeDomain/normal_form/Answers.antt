@@ -1,7 +1,7 @@
-use Rattle.std.proofs.Common.{◌≡◌, Bool, true, false, ℤ, pos, negsuc, ◌-ℤ◌, ◌≤ℤ◌, sym, refl, ap, ◌∙◌, inl, arith, w32, SFits, rules}
+use Rattle.std.proofs.Common.{◌≡◌, Bool, true, false, ℤ, pos, negsuc, ◌-ℤ◌, ◌≤ℤ◌, refl, ap, inl, arith, w32, SFits, rules}
 use borrow.Author.Differences.{ints}
 use Rattle.std.proofs.lemmas.Int.{by_lt_z}
-use Rattle.bounds.specs.Bounds.{UpperBound, upto}
+use Rattle.bounds.specs.Bounds.{upto}
 use Rattle.bounds.specs.Sums.{Vast}
 use Rattle.bounds.specs.Domains.{cycle_normal}
 use Rattle.bounds.proofs.time.CycleTimeTimeDomain.normal_form.Goals as goal

@@ -1,5 +1,4 @@
-use Rattle.std.proofs.Common.{◌≡◌, List, [], ◌∷◌, ◌++◌, length, decimal, sym, refl, ap, ◌∙◌, append_assoc, arith, length-append, to_z-of_z}
-use Rattle.std.specs.Fmt.{signed_decimal}
+use Rattle.std.proofs.Common.{[], ◌∷◌, ◌++◌, length, decimal, ap, ◌∙◌, append_assoc, arith, length-append, to_z-of_z}
 use Rattle.byte_text.specs.Lines.{text}
 use Rattle.byte_text.proofs.Writing.{signed_below}
 use Rattle.byte_text.proofs.line.Line.signed.Goals as goal

@@ -1,4 +1,4 @@
-use Rattle.std.proofs.Common.{◌≡◌, ◌≤◌, ◌++◌, length, take}
+use Rattle.std.proofs.Common.{◌≡◌, ◌++◌, take}
 use Rattle.byte_text.specs.Lines.{text}
 use Rattle.byte_text.proofs.line.Line.word.Given as goal
 

@@ -1,6 +1,5 @@
-use Rattle.std.proofs.Common.{◌≡◌, ◌-◌, drop, sym, refl, ap, ◌∙◌, subst, arith, rules}
+use Rattle.std.proofs.Common.{◌-◌, drop, ap, ◌∙◌, arith}
 use Rattle.std.proofs.lemmas.List.{length-take-le}
-use Rattle.byte_text.specs.declared.parts.Parts.{Parts}
 use Rattle.byte_text.specs.Parts.{ahead}
 use Rattle.byte_text.proofs.Parting.{walk_first, walk_more, walk_last}
 use Rattle.byte_text.proofs.parts.Parts.next.Goals as goal

@@ -1,4 +1,4 @@
-use Rattle.std.proofs.Common.{arith, rules}
+use Rattle.std.proofs.Common.{rules}
 use Rattle.byte_text.proofs.Steps.{up_to_on, up_to_here, up_to_none}
 use Rattle.byte_text.proofs.parts.walk.up_to.Goals as goal
 

@@ -1,4 +1,4 @@
-use Rattle.std.proofs.Common.{◌≡◌, Ok, sym, refl, ◌∙◌, subst, arith}
+use Rattle.std.proofs.Common.{Ok, sym, refl, ◌∙◌, subst, arith}
 use Rattle.distances.specs.Searching.{AdvanceSays}
 use Rattle.distances.proofs.Searched.{advance_refused, advance_closed, advance_open}
 use Rattle.distances.proofs.finder.Search.advance.Goals as goal

@@ -1,7 +1,7 @@
-use Rattle.std.proofs.Common.{◌≡◌, ℕ, ◌+◌, ◌^◌, ◌<◌, List, [], ◌∷◌, ◌++◌, length, decimal, sym, refl, ap, ◌∙◌, subst, append_assoc, arith, rules}
+use Rattle.std.proofs.Common.{ℕ, ◌^◌, ◌<◌, [], ◌∷◌, ◌++◌, length, decimal, sym, ap, ◌∙◌, append_assoc, arith, rules}
 use Rattle.zones.specs.Codes.{at}
 use Rattle.byte_text.specs.Lines.{text}
-use Rattle.entries.specs.Lines.{items, commas, line}
+use Rattle.entries.specs.Lines.{items, commas}
 use Rattle.entries.proofs.Steps.{on, longer}
 use Rattle.zones.proofs.Props.{sound}
 use Rattle.entries.proofs.Items.{length_line, line_is}

@@ -1,10 +1,6 @@
-use Rattle.std.proofs.Common.{◌≡◌, ℕ, ◌-◌, true, false, List, [], ◌∷◌, ◌++◌, take, Some, None, Option, sym, refl, ap, ◌∙◌, subst, arith}
+use Rattle.std.proofs.Common.{sym, refl, ap, ◌∙◌}
 use Rattle.std.proofs.lemmas.Bool.{both_ways}
-use Rattle.entries.specs.declared.entry.Entry.{Entry}
-use Rattle.entries.specs.declared.reading.Draft.{Draft}
-use Rattle.entries.specs.Entries.{IsEntry}
-use Rattle.entries.specs.Lines.{line, body}
-use Rattle.entries.specs.Reading.{Drafted}
+use Rattle.entries.specs.Lines.{line}
 use Rattle.entries.proofs.Drafts.{body_front}
 use Rattle.entries.proofs.entry.Entry.read.Goals as goal
 

@@ -1,6 +1,3 @@
-use Rattle.std.proofs.Common.{◌≡◌, ◌^◌, ◌<◌, arith, rules}
-use Rattle.zones.proofs.Props.{sound}
-use Rattle.entries.proofs.Short.{line_short}
 use Rattle.entries.proofs.entry.Entry.write.Goals as goal
 
 pub returns-in_err-line : goal.returns-in_err-line

@@ -1,4 +1,4 @@
-use Rattle.std.proofs.Common.{◌≡◌, ℕ, ◌+◌, ◌≤◌, List, ◌++◌, length, take, sym, refl, ap, subst, arith, length-append, length-take, rules}
+use Rattle.std.proofs.Common.{ℕ, ◌+◌, ◌≤◌, List, length, take, sym, ap, subst, arith, length-append, length-take, rules}
 use Rattle.entries.specs.Lines.{line}
 use Rattle.entries.proofs.Items.{length_line}
 use Rattle.stores.specs.Held.{Kept}

@@ -1,5 +1,5 @@
-use Rattle.std.proofs.Common.{◌≡◌, ℕ, ◌+◌, ◌≤◌, List, [], ◌∷◌, ◌++◌, length, take, sym, refl, ap, ◌∙◌, subst, arith}
-use Rattle.byte_text.specs.Lines.{text, written}
+use Rattle.std.proofs.Common.{◌≡◌, ℕ, ◌+◌, ◌≤◌, List, ◌++◌, length, take, sym, refl, ap, ◌∙◌, subst, arith}
+use Rattle.byte_text.specs.Lines.{written}
 use Rattle.entries.specs.declared.clock_count.ClockCount.{ClockCount}
 use Rattle.entries.specs.Entries.{IsEntry}
 use Rattle.entries.specs.Lines.{line}

@@ -1,4 +1,4 @@
-use Rattle.std.proofs.Common.{◌≡◌, ℕ, List, length, take, set, sym, subst, arith, length-set}
+use Rattle.std.proofs.Common.{ℕ, List, sym, subst, arith, length-set}
 use Rattle.std.proofs.lemmas.List.{take-set-le}
 use Rattle.stores.specs.Held.{Kept}
 use Rattle.stores.proofs.line_store.LineStore.lay.Goals as goal

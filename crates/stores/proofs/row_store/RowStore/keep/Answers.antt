@@ -1,6 +1,5 @@
-use Rattle.std.proofs.Common.{◌≡◌, ◌+◌, [], ◌∷◌, ◌++◌, length, take, set, refl, ap, ◌∙◌, add-one, arith, length-set, take-suc-set}
-use Rattle.plans.specs.RowLists.{kept, taken}
-use Rattle.entries.specs.declared.entry.Entry.{Entry}
+use Rattle.std.proofs.Common.{length, refl, ap, ◌∙◌, add-one, arith, length-set, take-suc-set}
+use Rattle.plans.specs.RowLists.{taken}
 use Rattle.stores.proofs.row_store.RowStore.keep.Goals as goal
 
 pub returns-in-Ok : goal.returns-in-Ok

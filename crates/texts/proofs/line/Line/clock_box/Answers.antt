@@ -1,8 +1,8 @@
-use Rattle.std.proofs.Common.{◌≡◌, ◌≤◌, true, false, cond, length, Ok, Err, sym, refl, ap, ◌∙◌, subst, ⊎_elim, arith, rules}
+use Rattle.std.proofs.Common.{◌≤◌, false, length, Ok, Err, sym, ap, ◌∙◌, arith}
 use Rattle.std.proofs.lemmas.Bool.{cond-true, cond-false}
 use Rattle.bounds.specs.declared.refusal.Refusal.TheVariants.{Number, Name}
 use Rattle.byte_text.specs.Parts.{place, ahead}
-use Rattle.texts.specs.BoxFields.{box_from, tightened}
+use Rattle.texts.specs.BoxFields.{box_from}
 use Rattle.texts.proofs.ClockSteps.{dash_long, dash_other, shorter}
 use Rattle.texts.proofs.BoxSteps.{box_dash, box_list, box_not, box_one, box_out, box_end, tight_is, tight_length}
 use Rattle.texts.proofs.line.Line.clock_box.Goals as goal

@@ -1,4 +1,4 @@
-use Rattle.std.proofs.Common.{◌≡◌, Err, sym, refl, ap, ◌∙◌, subst, rules}
+use Rattle.std.proofs.Common.{Err, sym, ap, ◌∙◌}
 use Rattle.bounds.specs.declared.refusal.Refusal.TheVariants.{Number}
 use Rattle.byte_text.specs.Parts.{place, ahead}
 use Rattle.texts.proofs.ClockSteps.{not_number, list_refused, dash_long, dash_other}

@@ -1,4 +1,4 @@
-use Rattle.std.proofs.Common.{◌≡◌, ◌∙◌}
+use Rattle.std.proofs.Common.{◌∙◌}
 use Rattle.texts.proofs.ClockSteps.{from_place}
 use Rattle.texts.proofs.line.Line.fields.Goals as goal
 

@@ -1,5 +1,4 @@
-use Rattle.std.proofs.Common.{◌≡◌, ◌-◌, length, take, drop, sym, refl, ap, ◌∙◌, subst, arith, length-drop, rules}
-use Rattle.std.proofs.lemmas.List.{length-take-le, take_rest}
+use Rattle.std.proofs.Common.{refl, rules}
 use Rattle.texts.proofs.LineWalks.{line_over, line_there, line_open}
 use Rattle.texts.proofs.reader.Reader.next_line.Goals as goal
 

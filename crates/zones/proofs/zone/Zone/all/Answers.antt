@@ -1,4 +1,4 @@
-use Rattle.std.proofs.Common.{◌≡◌, ◌<◌, ◌≢◌, length, ◌∙◌, arith, length-set, below_more}
+use Rattle.std.proofs.Common.{◌<◌, ◌≢◌, length, ◌∙◌, arith, length-set, below_more}
 use Rattle.zones.proofs.Written.{code_same, code_other}
 use Rattle.zones.proofs.All.{all_sound, all_holds, all_is}
 use Rattle.zones.proofs.zone.Zone.all.Goals as goal

@@ -1,4 +1,4 @@
-use Rattle.std.proofs.Common.{◌≡◌, ℕ, ◌<◌, length, get_or}
+use Rattle.std.proofs.Common.{◌≡◌, ℕ, ◌<◌, length}
 use Rattle.zones.specs.Codes.{code_all, code_of}
 use Rattle.zones.proofs.zone.Zone.all.Given as goal
 

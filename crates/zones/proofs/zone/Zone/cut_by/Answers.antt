@@ -1,4 +1,4 @@
-use Rattle.std.proofs.Common.{◌≡◌, pos, negsuc, ◌≤ℤ◌, refl, ◌∙◌, arith, w32, SFits, rules}
+use Rattle.std.proofs.Common.{pos, negsuc, ◌≤ℤ◌, refl, ◌∙◌, arith, w32, SFits, rules}
 use borrow.Author.Differences.{ints}
 use Rattle.bounds.proofs.ScaleLaws.{scale_laws}
 use Rattle.zones.proofs.Props.{sound}

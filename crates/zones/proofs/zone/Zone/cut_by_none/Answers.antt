@@ -1,4 +1,4 @@
-use Rattle.std.proofs.Common.{refl, arith}
+use Rattle.std.proofs.Common.{arith}
 use Rattle.bounds.proofs.ScaleLaws.{scale_laws}
 use Rattle.zones.proofs.Props.{sound}
 use Rattle.zones.proofs.CutFacts.{none_beyond, none_is, none_over, none_exact}

@@ -1,4 +1,3 @@
-use Rattle.std.proofs.Common.{arith}
 use Rattle.zones.proofs.Props.{sound}
 use Rattle.zones.proofs.zone.Zone.holds.Goals as goal
 

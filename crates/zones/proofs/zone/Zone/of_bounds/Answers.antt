@@ -1,5 +1,5 @@
-use Rattle.std.proofs.Common.{◌≡◌, ◌<◌, ◌≢◌, length, sym, refl, ap, ◌∙◌, subst, arith, length-set, below_none, below_more}
-use Rattle.zones.specs.Codes.{Near, Sound, decode, code_of}
+use Rattle.std.proofs.Common.{◌<◌, ◌≢◌, length, sym, refl, ap, ◌∙◌, subst, arith, length-set, below_more}
+use Rattle.zones.specs.Codes.{Near, decode}
 use Rattle.zones.proofs.Written.{code_same, code_other}
 use Rattle.zones.proofs.Givens.{none_far, none_other}
 use Rattle.zones.proofs.zone.Zone.of_bounds.Goals as goal

@@ -1,6 +1,5 @@
-use Rattle.std.proofs.Common.{◌≡◌, ◌+◌, ◌*◌, ◌<◌, ◌≤◌, subst, arith}
+use Rattle.std.proofs.Common.{◌+◌, ◌*◌, ◌<◌, ◌≤◌, subst, arith}
 use Rattle.bounds.proofs.ScaleLaws.{scale_laws}
-use Rattle.zones.specs.Codes.{code_plus, code_of}
 use Rattle.zones.proofs.Props.{sound}
 use Rattle.zones.proofs.CodeFacts.{near_more}
 use Rattle.zones.proofs.CutFacts.{cut_empties, cut_sound, cut_keeps, cut_overs}

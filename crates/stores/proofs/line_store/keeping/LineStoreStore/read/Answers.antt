@@ -1,4 +1,4 @@
-use Rattle.std.proofs.Common.{◌≡◌, ℕ, ◌-◌, ◌<◌, List, length, take, Some, None, Option, refl, subst, arith, Bor}
+use Rattle.std.proofs.Common.{◌≡◌, ℕ, ◌-◌, ◌<◌, List, take, Some, None, Option, refl, subst, arith, Bor}
 use Rattle.stores.specs.Texts.{NthSays}
 use Rattle.stores.proofs.HeldFacts.{count_is}
 use Rattle.stores.proofs.ReadFacts.{no_line, no_entry, entry_read}
