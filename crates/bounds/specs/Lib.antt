@@ -6,3 +6,4 @@ pub mod Sums
 pub mod Chosen
 pub mod Laws
 pub mod DomainLaws
+pub mod Tighter

@@ -1,5 +1,5 @@
--- The number of each refusal.
-use Rattle.std.specs.Prelude.{ℕ}
+-- The number of each refusal, and what is printed for it.
+use Rattle.std.specs.Prelude.{ℕ, List, codes}
 use Rattle.bounds.specs.declared.refusal.Refusal.{Refusal}
 use Rattle.bounds.specs.declared.refusal.Refusal.TheVariants as refused
 
@@ -17,3 +17,19 @@ number refused.Range = 10
 number refused.Phase = 11
 number refused.Entry = 12
 number refused.Buffer = 13
+
+-- what is printed for a refusal
+abbrev pub told : Refusal → List ℕ
+told refused.Line = codes "refused by Line"
+told refused.Order = codes "refused by Order"
+told refused.Number = codes "refused by Number"
+told refused.Name = codes "refused by Name"
+told refused.Chance = codes "refused by Chance"
+told refused.Rows = codes "refused by Rows"
+told refused.Clocks = codes "refused by Clocks"
+told refused.State = codes "refused by State"
+told refused.Full = codes "refused by Full"
+told refused.Range = codes "refused by Range"
+told refused.Phase = codes "refused by Phase"
+told refused.Entry = codes "refused by Entry"
+told refused.Buffer = codes "refused by Buffer"

@@ -1,5 +1,5 @@
 -- Bounds as the program holds them, and what their sum answers.
-use Rattle.std.specs.Prelude.{◌≡◌, Bool, true, ◌⊎◌, pos, negsuc, ◌<ℤ◌, Some, None, Ok, Err, Option, Result}
+use Rattle.std.specs.Prelude.{◌≡◌, Bool, true, ◌⊎◌, ℤ, pos, negsuc, ◌≤ℤ◌, ◌<ℤ◌, Some, None, Ok, Err, Option, Result}
 use Rattle.bounds.specs.declared.refusal.Refusal.{Refusal}
 use Rattle.bounds.specs.declared.refusal.Refusal.TheVariants as refused
 use Rattle.bounds.specs.declared.bound.Bound.{Bound}
@@ -10,10 +10,17 @@ abbrev pub bound_of : Option Bound → UpperBound
 bound_of None = none
 bound_of (Some b) = upto b.closed b.number
 
+-- within ±1,000,000,000, and beyond it
+abbrev pub Reached : ℤ → Type 0
+Reached n = (negsuc 999999999 ≤ℤ n) × (n ≤ℤ pos 1000000000)
+
+abbrev pub OutOfReach : ℤ → Type 0
+OutOfReach n = (n <ℤ negsuc 999999999) ⊎ (pos 1000000000 <ℤ n)
+
 -- a number beyond ±1,000,000,000, which no sum may have
 unfoldable pub Vast : UpperBound → Type 0
 Vast none = ⊥
-Vast (upto s n) = (n <ℤ negsuc 999999999) ⊎ (pos 1000000000 <ℤ n)
+Vast (upto s n) = OutOfReach n
 
 -- what the sum of a and b answers
 abbrev pub SumSays : UpperBound → UpperBound → Result (Option Bound) Refusal → Type 0

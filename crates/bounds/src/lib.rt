@@ -2,4 +2,5 @@
 
 pub mod bound;
 pub mod refusal;
+pub mod tighter;
 pub mod time;

@@ -1,4 +1,4 @@
-ghost use Rattle.std.specs.Prelude.{◌≡◌, ℕ, Bool, true};
+ghost use Rattle.std.specs.Prelude.{◌≡◌, ℕ, Bool};
 ghost use Rattle.bounds.specs.Bounds.{UpperBound, upto};
 ghost use Rattle.bounds.specs.Sums.{bound_of};
 ghost use Rattle.bounds.specs.Domains.{Lawful, cycle_allows, cycle_normal, hand_allows, hand_normal};
@@ -113,13 +113,10 @@ impl TimeDomain for PlanTime {
 pub fn normal_of<T: TimeDomain>(time: &T, bound: Option<Bound>) -> Result<Option<Bound>, Refusal>
     ensures { NormalOfSays (T.normal time.now) (bound_of bound) result }
 {
-    match bound {
-        None => Ok(None),
-        Some(b) => match time.normal_form(b) {
-            Ok(n) => Ok(Some(n)),
-            Err(why) => Err(why),
-        },
-    }
+    let Some(bound) = bound else {
+        return Ok(None);
+    };
+    Ok(Some(time.normal_form(bound)?))
 }
 
 // Whether two bounds are met by the same differences at every scale that is allowed:

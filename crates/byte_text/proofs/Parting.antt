@@ -1,5 +1,5 @@
 -- Parts between marks.
-use Rattle.std.proofs.Common.{◌≡◌, ℕ, suc, ◌+◌, ◌-◌, ◌<◌, ◌≤◌, Bool, true, false, cond, eqb, ltb, List, [], ◌∷◌, length, take, drop, Some, refl, arith, le-ltb, lt-ltb}
+use Rattle.std.proofs.Common.{◌≡◌, ℕ, suc, ◌+◌, ◌-◌, ◌<◌, ◌≤◌, true, false, cond, eqb, ltb, List, [], ◌∷◌, length, take, drop, Some, refl, arith, le-ltb, lt-ltb}
 use lib.Dec.{leb-suc-suc}
 use Rattle.std.proofs.lemmas.List.{take_rest}
 use Rattle.byte_text.specs.Parts.{up_to}
@@ -25,12 +25,17 @@ after_some b at xs n is h =
 pub after_none : (b at : ℕ) (xs : List ℕ) (n : ℕ) → n ≡ up_to b xs → length xs ≤ n → [] ≡ after b at xs (up_to b xs)
 after_none b at xs n is h = let e = le-ltb n (length xs) h in rw (← is, e)
 
-module _ (more : Bool) (b at : ℕ) (xs : List ℕ) (n : ℕ) (on : more ≡ true) (is : n ≡ up_to b xs) where
-  pub walk_first : Some (record { bytes = take (n - 0) (drop 0 xs); at = at }) ≡ head_place (cond more (parted b at xs) [])
-  walk_first = let e : n - 0 ≡ n = omega arith in let h = parted_first b at xs in rw (on, h, e, is)
+module _ (b at : ℕ) (xs : List ℕ) (n : ℕ) (is : n ≡ up_to b xs) where
+  pub walk_first : Some (record { bytes = take n xs; at = at }) ≡ head_place (parted b at xs)
+  walk_first = let h = parted_first b at xs in rw (h, is)
 
-  pub walk_more : n < length xs → cond more (parted b (at + (n + 1)) (take (length xs - (n + 1)) (drop (n + 1) xs))) [] ≡ tail_places (cond more (parted b at xs) [])
-  walk_more lt = let h = parted_first b at xs in let e = after_some b at xs n is lt in rw (on, h, e)
+  pub walk_more : n < length xs → parted b (at + (n + 1)) (take (length xs - (n + 1)) (drop (n + 1) xs)) ≡ tail_places (parted b at xs)
+  walk_more lt = let h = parted_first b at xs in let e = after_some b at xs n is lt in rw (h, e)
 
-  pub walk_last : length xs ≤ n → [] ≡ tail_places (cond more (parted b at xs) [])
-  walk_last le = let h = parted_first b at xs in let e = after_none b at xs n is le in rw (on, h, ← e)
+  pub walk_last : length xs ≤ n → [] ≡ tail_places (parted b at xs)
+  walk_last le = let h = parted_first b at xs in let e = after_none b at xs n is le in rw (h, ← e)
+
+-- a walk that gives a part has one part fewer ahead
+pub first_and_rest : (p : Place) (all rest : List Place) → Some p ≡ head_place all → rest ≡ tail_places all → all ≡ p ∷ rest
+first_and_rest p [] rest h e = absurd (let z : ◌≡◌ {A = ℕ} 0 1 = cc in omega arith)
+first_and_rest p (q ∷ qs) rest h e = let f : p ≡ q = cc in cc

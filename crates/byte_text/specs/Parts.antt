@@ -1,5 +1,5 @@
 -- The parts of a text between marks, as lines between line ends, fields between tabs and items between commas.
-use Rattle.std.specs.Prelude.{ℕ, suc, ◌+◌, ◌-◌, ◌^◌, ◌<◌, min, cond, List, [], ◌∷◌, length, Some, None, Option, ◌==◌}
+use Rattle.std.specs.Prelude.{◌≡◌, ℕ, suc, ◌+◌, ◌-◌, ◌^◌, ◌<◌, min, cond, List, [], ◌∷◌, length, Some, None, Option, ◌==◌}
 use Rattle.byte_text.specs.declared.parts.Part.{Part}
 use Rattle.byte_text.specs.declared.parts.Parts.{Parts}
 
@@ -34,9 +34,14 @@ parted b at (x ∷ xs) = cond (x == b) (record { bytes = []; at = at } ∷ parte
 abbrev pub within : ℕ → List ℕ → ℕ
 within at bs = min at (2 ^ 64 - 1 - length bs)
 
+-- the parts of what is left, if anything is
+abbrev pub parts_left : ℕ → Option Part → List Place
+parts_left b None = []
+parts_left b (Some p) = parted b p.at p.bytes.now
+
 -- the parts that a walk has yet to give
 abbrev pub ahead : Parts → List Place
-ahead p = cond p.more (parted p.mark p.rest.at p.rest.bytes.now) []
+ahead p = parts_left p.mark p.rest
 
 abbrev pub head_place : List Place → Option Place
 head_place [] = None
@@ -50,3 +55,9 @@ tail_places (p ∷ ps) = ps
 abbrev pub Low : Option Part → Type 0
 Low (Some p) = p.at + length p.bytes.now < 2 ^ 64
 Low None = Unit {0}
+
+-- what a walk gives: the first part of those ahead, or none where none is, and what is ahead after it
+pub record Gives (before : Parts) (given : Option Part) (after : Parts) : Type 0 where
+  pub first : placed given ≡ head_place (ahead before)
+  pub rest : ahead after ≡ tail_places (ahead before)
+  pub low : Low given

@@ -1,22 +1,28 @@
-ghost use Rattle.std.specs.Prelude.{◌≡◌, ℕ, ◌+◌, ◌^◌, ◌<◌, ◌≤◌, List, [], ◌∷◌, ◌++◌, length, decimal};
+ghost use Rattle.std.specs.Prelude.{◌≡◌, ◌+◌, ◌<◌, ◌≤◌, ◌==◌, [], ◌∷◌, ◌++◌, length, decimal};
 ghost use Rattle.std.specs.Fmt.{signed_decimal};
-ghost use Rattle.byte_text.specs.Lines.{text, AddSays, WriteSays};
 
 use bounds::refusal::Refusal;
 
+// How many bytes a line has room for.
+const ROOM: usize = 1200;
+
 // A line of text as it is put together, of at most 1,200 bytes.
+// Its bytes lie in an array with a count beside it, since a line may be copied and an `ArrayVec` may not.
 #[derive(Clone, Copy)]
 pub struct Line {
-    bytes: [u8; 1200],
+    bytes: [u8; ROOM],
     used: usize,
+    ghost fits: { used ≤ 1200 },
 }
 
 impl Line {
+    ghost use Rattle.byte_text.specs.Lines.{text, AddSays, WriteSays};
+
     pub fn new() -> Line
         ensures { text result ≡ [] }
     {
         Line {
-            bytes: [0; 1200],
+            bytes: [0; ROOM],
             used: 0,
         }
     }
@@ -26,22 +32,28 @@ impl Line {
         ensures value { result ≡ length (text self.now) }
         ensures bound { result ≤ 1200 }
     {
-        self.used.min(1200)
+        self.as_bytes().len()
+    }
+
+    // Whether the line has no byte.
+    pub fn is_empty(&self) -> bool
+        ensures { result ≡ (length (text self.now) == 0) }
+    {
+        self.used == 0
     }
 
     // The bytes of the line.
     pub fn as_bytes(&self) -> &[u8]
         ensures { result.now ≡ text self.now }
     {
-        let n = self.len();
-        &self.bytes[0..n]
+        &self.bytes[..self.used]
     }
 
     // Adds a byte. This, and each that follows, is refused by Buffer where the line has no room for all that is added.
     pub fn push(&mut self, byte: u8) -> Result<(), Refusal>
         ensures { AddSays (text self.old) (byte ∷ []) result (text self.new) }
     {
-        if self.len() >= 1200 {
+        if self.used == ROOM {
             return Err(Refusal::Buffer);
         }
         self.lay(byte);
@@ -52,7 +64,7 @@ impl Line {
     pub fn number(&mut self, n: u64) -> Result<(), Refusal>
         ensures { AddSays (text self.old) (decimal n) result (text self.new) }
     {
-        if self.len() + number_len(n) > 1200 {
+        if self.len() + number_len(n) > ROOM {
             return Err(Refusal::Buffer);
         }
         self.digits(n);
@@ -65,7 +77,7 @@ impl Line {
     {
         let n = u64::from(z.unsigned_abs());
         if z < 0 {
-            if self.len() + 1 + number_len(n) > 1200 {
+            if self.len() + 1 + number_len(n) > ROOM {
                 return Err(Refusal::Buffer);
             }
             self.lay(b'-');
@@ -79,12 +91,12 @@ impl Line {
     pub fn word(&mut self, bytes: &[u8]) -> Result<(), Refusal>
         ensures { AddSays (text self.old) bytes.now result (text self.new) }
     {
-        if bytes.len() > 1200 - self.len() {
+        if bytes.len() > ROOM - self.used {
             return Err(Refusal::Buffer);
         }
-        for b in bytes {
-            self.lay(*b);
-        }
+        let end = self.used + bytes.len();
+        self.bytes[self.used..end].copy_from_slice(bytes);
+        self.used = end;
         Ok(())
     }
 
@@ -93,14 +105,12 @@ impl Line {
     pub fn write(&self, buffer: &mut [u8]) -> Result<usize, Refusal>
         ensures { WriteSays (text self.now) buffer.old result buffer.new }
     {
-        let n = self.len();
-        if buffer.len() < n {
+        let line = self.as_bytes();
+        if buffer.len() < line.len() {
             return Err(Refusal::Buffer);
         }
-        for i in 0..n {
-            buffer[i] = self.bytes[i];
-        }
-        Ok(n)
+        buffer[..line.len()].copy_from_slice(line);
+        Ok(line.len())
     }
 
     fn lay(&mut self, byte: u8)
@@ -111,6 +121,7 @@ impl Line {
         self.used += 1;
     }
 
+    // By hand: `write!` promises nothing of the line where it fails, so the refusal did not prove through it.
     fn digits(&mut self, n: u64)
         requires { length (text self.old) + length (decimal n) ≤ 1200 }
         ensures { text self.new ≡ text self.old ++ decimal n }
@@ -128,5 +139,5 @@ fn number_len(n: u64) -> usize
     ensures value { result ≡ length (decimal n) }
     ensures bound { result ≤ 20 }
 {
-    if n < 10 { 1 } else { number_len(n / 10) + 1 }
+    n.checked_ilog10().unwrap_or(0) as usize + 1
 }

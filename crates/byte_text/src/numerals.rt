@@ -6,7 +6,7 @@ ghost use Rattle.byte_text.specs.Numerals.{number_to};
 pub fn number_to(bytes: &[u8], top: u64) -> Option<u64>
     ensures { result ≡ number_to top bytes.now }
 {
-    if bytes.len() == 0 {
+    if bytes.is_empty() {
         return None;
     }
     if bytes.len() > 1 && bytes[0] == b'0' {
@@ -14,7 +14,7 @@ pub fn number_to(bytes: &[u8], top: u64) -> Option<u64>
     }
     let mut number: u64 = 0;
     for b in bytes {
-        if *b < b'0' || *b > b'9' {
+        if !b.is_ascii_digit() {
             return None;
         }
         number = number

@@ -1,21 +1,21 @@
-ghost use Rattle.std.specs.Prelude.{◌+◌, ◌^◌, ◌<◌, length};
+ghost use Rattle.std.specs.Prelude.{◌+◌, ◌^◌, ◌<◌, length, IfSome};
+ghost use Rattle.std.proofs.Props.{props};
 
 mod walk;
 
 pub use walk::up_to;
 
 // Some of the bytes of a text, and where in the text they begin.
-#[derive(Clone, Copy)]
+#[derive(Clone, Copy, PartialEq, Eq, Debug)]
 pub struct Part<'a> {
     pub bytes: &'a [u8],
     pub at: usize,
 }
 
-// A walk over the parts of a text that stand between the bytes `mark`: what is left of the text, if `more` parts are to come.
+// A walk over the parts of a text that stand between the bytes `mark`: what is left of the text, or none where all parts were given.
 #[derive(Clone, Copy)]
 pub struct Parts<'a> {
-    rest: Part<'a>,
+    rest: Option<Part<'a>>,
     mark: u8,
-    more: bool,
-    ghost fits: { rest.at + length rest.bytes.now < 2 ^ 64 },
+    ghost fits: { IfSome rest (λ p. p.at + length p.bytes.now < 2 ^ 64) } by { Prim.hlevel props },
 }

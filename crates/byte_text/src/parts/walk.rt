@@ -1,5 +1,7 @@
-ghost use Rattle.std.specs.Prelude.{◌≡◌, ◌≤◌, length};
-ghost use Rattle.byte_text.specs.Parts.{up_to, placed, within, parted, ahead, head_place, tail_places, Low};
+ghost use Rattle.std.specs.Prelude.{◌≡◌, ◌≤◌, ◌==◌, length};
+ghost use Rattle.std.specs.List.{position};
+ghost use Rattle.std.specs.Iterator.{item_count};
+ghost use Rattle.byte_text.specs.Parts.{up_to, within, parted, ahead, Gives};
 
 use crate::parts::{Part, Parts};
 
@@ -8,11 +10,15 @@ pub fn up_to(bytes: &[u8], mark: u8) -> usize
     ensures value { result ≡ up_to mark bytes.now }
     ensures bound { result ≤ length bytes.now }
 {
-    let mut i = 0;
-    while i < bytes.len() && bytes[i] != mark {
-        i += 1;
-    }
-    i
+    first(bytes, mark).unwrap_or(bytes.len())
+}
+
+// Where the first `mark` stands, if there is one.
+// On its own: written out in `up_to`, the answer of `position` was not found by a search for its proof.
+fn first(bytes: &[u8], mark: u8) -> Option<usize>
+    ensures { result ≡ position (λ b. b == mark) bytes.now }
+{
+    bytes.iter().position(|b| *b == mark)
 }
 
 impl<'a> Parts<'a> {
@@ -21,40 +27,38 @@ impl<'a> Parts<'a> {
     pub fn new(whole: Part<'a>, mark: u8) -> Parts<'a>
         ensures { ahead result ≡ parted mark (within whole.entry.at whole.entry.bytes.now) whole.entry.bytes.now }
     {
-        let at = whole.at.min(usize::MAX - whole.bytes.len());
-        let bytes = whole.bytes;
+        let Part { bytes, at } = whole;
+        let at = at.min(usize::MAX - bytes.len());
         Parts {
-            rest: Part { bytes, at },
+            rest: Some(Part { bytes, at }),
             mark,
-            more: true,
         }
     }
+}
+
+impl<'a> Iterator for Parts<'a> {
+    type Item = Part<'a>;
+
+    ghost next_gives = { Gives };
+
+    ghost remaining = { item_count ahead };
 
     // The next part, or none where all were given.
-    pub fn next(&mut self) -> Option<Part<'a>>
-        ensures first { placed result ≡ head_place (ahead self.old) }
-        ensures rest { ahead self.new ≡ tail_places (ahead self.old) }
-        ensures low { Low result }
-    {
-        if !self.more {
-            return None;
-        }
-        let bytes = self.rest.bytes;
-        let at = self.rest.at;
+    fn next(&mut self) -> Option<Part<'a>> {
+        let Part { bytes, at } = self.rest?;
         let n = up_to(bytes, self.mark);
-        let part = Part {
-            bytes: &bytes[0..n],
-            at,
-        };
-        if n < bytes.len() {
+        self.rest = if n < bytes.len() {
             let e = n + 1;
-            self.rest = Part {
+            Some(Part {
                 bytes: &bytes[e..],
                 at: at + e,
-            };
+            })
         } else {
-            self.more = false;
-        }
-        Some(part)
+            None
+        };
+        Some(Part {
+            bytes: &bytes[..n],
+            at,
+        })
     }
 }

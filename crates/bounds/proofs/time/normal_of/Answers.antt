@@ -9,11 +9,11 @@ not_vast : Vast none → ⊥
 unfolding Vast
 not_vast h = h
 
-pub returns-in-None : goal.returns-in-None
-returns-in-None g c =
+pub returns-in_default : goal.returns-in_default
+returns-in_default g c =
     let t = g.T.TimeDomain in
     let k = c.args.time.now in
-    let e : bound_of c.args.bound ≡ none = ap bound_of c.in-None.is in (
+    let e : bound_of c.args.bound ≡ none = ap bound_of c.in_default.is in (
       sym (ap (t.normal k) e ∙ normal_none (scale_laws (t.allows k) (t.normal k) (t.lawful k))),
       λ h. not_vast (subst Vast e h),
     )
