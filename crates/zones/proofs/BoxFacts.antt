@@ -1,6 +1,6 @@
 -- Cutting by a box, one step after the other
 use Rattle.zones.specs.declared.codes.Code.{Code}
-use Rattle.std.proofs.Common.{◌≡◌, ℕ, suc, ◌+◌, ◌*◌, ◌/◌, ◌%◌, ◌<◌, Bool, List, ℤ, ◌-ℤ◌, Ok, Err, Result, sym, refl, ap, ◌∙◌, subst, ⊎_elim, add-one, arith}
+use Rattle.std.proofs.Common.{◌≡◌, ℕ, suc, ◌+◌, ◌*◌, ◌/◌, ◌%◌, ◌<◌, Bool, List, ℤ, ◌-ℤ◌, Ok, Err, Result, IsErrAnd, sym, refl, ap, ◌∙◌, subst, ⊎_elim, add-one, arith}
 use borrow.Author.Differences.{ints}
 use Rattle.std.proofs.lemmas.Bool.{cases_eq, cond-true, cond-false, eq-eqb, ne_eqb}
 use Rattle.zones.specs.declared.zone.Cut.{Cut}
@@ -176,7 +176,26 @@ module _ (allows : ℕ → Bool) (normal : UpperBound → UpperBound) (sides : L
   }
 
 -- what a cut says, under other names for what it was passed
-pub cut_says : (allows : ℕ → Bool) (normal : UpperBound → UpperBound) (ys ws : List Code) (i i' j j' : ℕ) (l l' : UpperBound) (r r' : Result Cut Refusal) → i ≡ i' → j ≡ j' → l ≡ l' → r ≡ r'
+cut_says : (allows : ℕ → Bool) (normal : UpperBound → UpperBound) (ys ws : List Code) (i i' j j' : ℕ) (l l' : UpperBound) (r r' : Result Cut Refusal) → i ≡ i' → j ≡ j' → l ≡ l' → r ≡ r'
     → CutSays allows normal i j l ys ws r → CutSays allows normal i' j' l' ys ws r'
 cut_says allows normal ys ws i i' j j' l l' r r' e f g h s =
     subst (λ q. CutSays allows normal i' j' l' ys ws q) h (subst (λ q. CutSays allows normal i' j' q ys ws r) g (subst (λ q. CutSays allows normal i' q l ys ws r) f (subst (λ q. CutSays allows normal q j l ys ws r) e s)))
+
+-- the cut by a side's lower bound, turned round, is an even step, and that by its upper one the odd step after it
+module _ (allows : ℕ → Bool) (normal : UpperBound → UpperBound) (sides : List Side) (ys ws : List Code) (k : ℕ) (l : UpperBound) (r r' : Result Cut Refusal) where
+  pub lower_says : l ≡ turned (bound_of (side_of sides k).lower) → r ≡ r' → CutSays allows normal 0 (k + 1) l ys ws r → CutSays allows normal (row_of (2 * k)) (column_of (2 * k)) (box_bound sides (2 * k)) ys ws r'
+  lower_says f h s =
+      let even : (2 * k) % 2 ≡ 1 → ⊥ = λ e. omega arith in
+      let half : k ≡ (2 * k) / 2 = omega arith in
+      cut_says allows normal ys ws _ _ _ _ _ _ r r' (sym (even_row (2 * k) even)) (ap (λ n. n + 1) half ∙ sym (even_column (2 * k) even)) (f ∙ ap (λ n. turned (bound_of (side_of sides n).lower)) half ∙ sym (even_bound sides (2 * k) even)) h s
+
+  pub upper_says : l ≡ bound_of (side_of sides k).upper → r ≡ r' → CutSays allows normal (k + 1) 0 l ys ws r → CutSays allows normal (row_of (2 * k + 1)) (column_of (2 * k + 1)) (box_bound sides (2 * k + 1)) ys ws r'
+  upper_says f h s =
+      let odd : (2 * k + 1) % 2 ≡ 1 = omega arith in
+      let half : k ≡ (2 * k + 1) / 2 = omega arith in
+      cut_says allows normal ys ws _ _ _ _ _ _ r r' (ap (λ n. n + 1) half ∙ sym (odd_row (2 * k + 1) odd)) (sym (odd_column (2 * k + 1) odd)) (f ∙ ap (λ n. bound_of (side_of sides n).upper) half ∙ sym (odd_bound sides (2 * k + 1) odd)) h s
+
+-- what `?` passes on
+pub passed_on : (r : Result Cut Refusal) (G : Refusal → Type 0) (P : Result Cut Refusal → Type 0) → IsErrAnd r G → ((e : Refusal) → G e → P (Err e)) → P r
+passed_on (Ok x) G P h f = absurd h
+passed_on (Err e) G P h f = f e h

@@ -1,12 +1,15 @@
 -- What the cut of a zone's codes comes to
 use Rattle.zones.specs.declared.codes.Code.{Code}
-use Rattle.std.proofs.Common.{◌≡◌, ℕ, ◌+◌, ◌*◌, ◌/◌, ◌%◌, ◌<◌, ◌≤◌, Bool, true, false, not, eqb, List, ℤ, pos, negsuc, ◌+ℤ◌, ◌-ℤ◌, ◌≤ℤ◌, ◌<ℤ◌, sym, refl, ap, ◌∙◌, subst, inl, inr, ⊎_elim, arith}
-use mathlib.Core.Bool.{beq}
+use Rattle.std.proofs.Common.{◌≡◌, ℕ, ◌+◌, ◌*◌, ◌/◌, ◌%◌, ◌<◌, ◌≤◌, Bool, true, false, eqb, List, ℤ, pos, negsuc, ◌+ℤ◌, ◌-ℤ◌, ◌≤ℤ◌, Ok, Err, Result, MatchResult, sym, refl, ap, ◌∙◌, subst, inl, inr, ⊎_elim, arith}
 use borrow.Author.Differences.{ints}
 use Rattle.std.proofs.lemmas.Bool.{cases_lt}
 use Rattle.bounds.specs.Bounds.{UpperBound, none, upto, plus, level, Meets, Tight}
 use Rattle.bounds.specs.Sums.{Vast}
 use Rattle.bounds.specs.Domains.{Alike}
+use Rattle.bounds.specs.declared.bound.Bound.{Bound}
+use Rattle.bounds.specs.declared.refusal.Refusal.{Refusal}
+use Rattle.bounds.specs.Chosen.{NormalSays}
+use Rattle.bounds.specs.Logic.{Iff}
 use Rattle.zones.specs.Matrices.{tighter, Canon, Holds, cut_at}
 use Rattle.zones.specs.Codes.{Near, Sound, code_plus, code_cut, decode, at, code_of}
 use Rattle.zones.specs.Cuts.{OfDomain, Left, Far, Over, Beyond, CodeOf, Fit, CutOver, CutEmpty, CutKept}
@@ -21,16 +24,6 @@ none_last : (l : UpperBound) → Tight l none
 unfolding Tight
 none_last none = tt
 none_last (upto s a) = tt
-
-pub same_flags : (s t : Bool) → not (beq s t) ≡ false → s ≡ t
-same_flags true true e = refl
-same_flags true false e = e
-same_flags false true e = sym e
-same_flags false false e = refl
-
--- a bound that came back as it was
-pub same_bound : (normal : UpperBound → UpperBound) (k : ℕ) (s t : Bool) (m n : ℤ) → upto s m ≡ decode k → upto t n ≡ normal (upto s m) → not (beq t s) ≡ false → n ≡ m → normal (decode k) ≡ decode k
-same_bound normal k s t m n e f g h = ap normal (sym e) ∙ sym f ∙ ap (λ u. upto u n) (same_flags t s g) ∙ ap (upto s) h ∙ e
 
 -- a code below that of `<= 0` is tighter
 pub under_level : (k : ℕ) → k < 33554433 → Tight level (decode k) → ⊥
@@ -176,18 +169,6 @@ module _ {allows : ℕ → Bool} {normal : UpperBound → UpperBound} (K : Scale
         states = exact K xs s fit.of_domain i j fit.row fit.column b c code.near code.is some ys is;
       }
 
-pub not_beyond : (s : Bool) (n : ℤ) → negsuc 999999 ≤ℤ n → n ≤ℤ pos 1000000 → Beyond (upto s n) → ⊥
-unfolding Beyond
-not_beyond s n h k b = ⊎_elim {C = ⊥} (λ a. omega (arith, ints)) (λ a. omega (arith, ints)) b
-
-pub under : (s : Bool) (n : ℤ) → n <ℤ negsuc 999999 → (Beyond (upto s n) → ⊥) → ⊥
-unfolding Beyond
-under s n h f = f (inl h)
-
-pub upper : (s : Bool) (n : ℤ) → pos 1000000 <ℤ n → (Beyond (upto s n) → ⊥) → ⊥
-unfolding Beyond
-upper s n h f = f (inr h)
-
 pub none_beyond : Beyond none → ⊥
 unfolding Beyond
 none_beyond h = h
@@ -195,6 +176,28 @@ none_beyond h = h
 pub not_vast : (s : Bool) (n : ℤ) → negsuc 3999999 ≤ℤ n → n ≤ℤ pos 4000000 → Vast (upto s n) → ⊥
 unfolding Vast
 not_vast s n h k b = ⊎_elim {C = ⊥} (λ a. omega (arith, ints)) (λ a. omega (arith, ints)) b
+
+-- the bound of a code that is near is not vast
+pub near_not_vast : (k : ℕ) (b : UpperBound) → b ≡ decode k → Near 4000000 k → Vast b → ⊥
+unfolding Vast
+near_not_vast k b e n v = ⊎_elim {C = ⊥}
+    (λ h. let r = n.0 h in ⊎_elim {C = ⊥} (λ a. omega (arith, ints)) (λ a. omega (arith, ints)) (subst Vast (e ∙ decode_below k h) v))
+    (λ h. subst Vast (e ∙ decode_none k h) v)
+    (cases_lt k 4294967295)
+
+-- whether a bound that is not vast comes back as it was
+pub normal_answer : (normal : UpperBound → UpperBound) (b : Bound) (k : ℕ) → upto b.closed b.number ≡ decode k → Near 4000000 k
+    → (r : Result Bound Refusal) (v : Bool) (P : Bound → Type 0) → ((n : Bound) → P n → Iff (v ≡ true) (n ≡ b)) → NormalSays normal (upto b.closed b.number) r → MatchResult r P (λ _. v ≡ false) → Iff (v ≡ true) (normal (decode k) ≡ decode k)
+normal_answer normal b k e near (Ok n) v P f says h =
+    let back : normal (decode k) ≡ upto n.closed n.number = sym (ap normal e) ∙ sym says.0 in (
+      λ t. back ∙ ap (λ (m : Bound). upto m.closed m.number) ((f n h).0 t) ∙ e,
+      λ q. (f n h).1 (same_bound n b (sym back ∙ q ∙ sym e)),
+    )
+  where
+    same_bound : (x y : Bound) → upto x.closed x.number ≡ upto y.closed y.number → x ≡ y
+    same_bound x y q = let c : x.closed ≡ y.closed = cc in let m : x.number ≡ y.number = cc in
+        ap (λ (s : Bool). record { number = x.number; closed = s }) c ∙ ap (λ (n : ℤ). record { number = n; closed = y.closed }) m
+normal_answer normal b k e near (Err why) v P f says h = absurd (near_not_vast k _ e near says.1)
 
 -- the normal form of a bound is close by
 pub close : {allows : ℕ → Bool} {normal : UpperBound → UpperBound} (K : ScaleLaws allows normal) (s t : Bool) (m n : ℤ) → upto t n ≡ normal (upto s m) → (n ≤ℤ (m +ℤ pos 1)) × (m ≤ℤ (n +ℤ pos 1))

@@ -13,10 +13,6 @@ unfolding plus
 plus_none none = refl
 plus_none (upto s a) = refl
 
-none_plus : (l : UpperBound) → plus none l ≡ none
-unfolding plus
-none_plus l = refl
-
 module _ {allows : ℕ → Bool} {normal : UpperBound → UpperBound} (K : ScaleLaws allows normal) where
   pub normal_cut : (Z : ℕ → ℕ → UpperBound) (i j : ℕ) (c : UpperBound) → i < 9 → j < 9 → normal c ≡ c → ((a b : ℕ) → a < 9 → b < 9 → normal (Z a b) ≡ Z a b)
       → (a b : ℕ) → a < 9 → b < 9 → normal (cut_at Z i j c a b) ≡ cut_at Z i j c a b

@@ -1,5 +1,5 @@
 -- Codes that are given, and when a zone has them
-use Rattle.std.proofs.Common.{◌≡◌, ℕ, ◌+◌, ◌*◌, ◌/◌, ◌%◌, ◌<◌, ◌≤◌, Bool, ◌⊎◌, List, get_or, ℤ, pos, negsuc, ◌<ℤ◌, None, Option, sym, ap, ◌∙◌, subst, ⊎_elim, arith}
+use Rattle.std.proofs.Common.{◌≡◌, ℕ, ◌+◌, ◌*◌, ◌/◌, ◌%◌, ◌<◌, ◌≤◌, pos, negsuc, neg_ℤ, ◌≤ℤ◌, List, get_or, None, Some, Option, MatchOption, sym, ap, ◌∙◌, subst, ⊎_elim, arith}
 use borrow.Author.Differences.{ints}
 use Rattle.std.proofs.lemmas.Bool.{cases_lt}
 use Rattle.bounds.specs.declared.bound.Bound.{Bound}
@@ -9,10 +9,10 @@ use Rattle.bounds.specs.Laws.{tight_refl}
 use Rattle.zones.specs.declared.codes.Code.{Code}
 use Rattle.zones.specs.Matrices.{Canon}
 use Rattle.zones.specs.Codes.{Near, at, decode, code_of, code_plus}
-use Rattle.zones.specs.Cuts.{Far}
+use Rattle.zones.specs.Cuts.{FromTo, Far}
 use Rattle.zones.specs.Given.{Given, NoZone, Direct}
 use Rattle.zones.proofs.Decoding.{decode_below, decode_none, decode_tight, decode_plus, canon_same}
-use Rattle.zones.proofs.Codings.{level_code, code_le}
+use Rattle.zones.proofs.Codings.{none_code, level_code, code_le}
 
 -- equal bounds have equal codes
 pub same_code : (a b : ℕ) → a ≤ 4294967295 → b ≤ 4294967295 → decode a ≡ decode b → a ≡ b
@@ -20,6 +20,13 @@ same_code a b ha hb e =
     let p = code_le a b ha (subst (Tight (decode a)) e (tight_refl (decode a))) in
     let q = code_le b a hb (subst (Tight (decode b)) (sym e) (tight_refl (decode b))) in
     omega arith
+
+-- what `map_or` answers: the code of a bound within reach, or none's
+pub given_is : (o : Option Bound) (r : Code) (N : Type 0) (P : Bound → Type 0) → FromTo (negsuc 3999999) (pos 4000000) (bound_of o) → (N → r.0 ≡ 4294967295)
+    → ((b : Bound) → P b → (decode r.0 ≡ upto b.closed b.number) × ((neg_ℤ (pos 4000000) ≤ℤ b.number → b.number ≤ℤ pos 4000000 → Near 4000000 r.0)))
+    → MatchOption o N P → Near 4000000 r.0 × (decode r.0 ≡ bound_of o)
+given_is None r N P h n f m = let e = n m in ((λ l. absurd (omega arith), omega arith), ap decode e ∙ none_code)
+given_is (Some b) r N P h n f m = ((f b m).1 h.0 h.1, (f b m).0)
 
 -- a code that is near has no number that no zone has
 pub near_not_far : (k : ℕ) → Near 4000000 k → Far (decode k) → ⊥
@@ -67,8 +74,3 @@ none_far bs p h f xs s e = near_not_far (code_of xs p) (s.near p h) (subst Far (
 -- no zone has bounds whose codes are not those of a zone
 pub none_other : (bs : List (Option Bound)) (ys : List Code) → Given bs ys → (Canon (at ys) → ⊥) → NoZone bs
 none_other bs ys g n xs s e = n (canon_same (at ys) (at xs) (λ a b ha hb. let h : 9 * a + b < 81 = omega arith in g _ h ∙ sym (e _ h)) s.canon)
-
--- a number within the reach of a zone
-pub not_far : (s : Bool) (c : ℤ) → (c <ℤ negsuc 3999999) ⊎ (pos 4000000 <ℤ c) → Far (upto s c)
-unfolding Far
-not_far s c h = h

@@ -64,12 +64,15 @@ module _ (xs : List Code) (s : Sound xs) (k : ℕ) (hk : k < 9) (ok : 33554433 �
   pub zero_ok : Tight level (plus (at xs 0 k) level)
   zero_ok = subst (Tight level) (sym (plus_level_right (at xs 0 k))) low
 
+  pub zero_sound : (ws : List Code) → ((p : ℕ) → p < 81 → code_of ws p ≡ code_cut xs k 0 33554433 p) → Sound ws
+  zero_sound ws is = record {
+    near = λ p h. subst (Near 4000000) (sym (is p h)) (near_zero p h);
+    canon = canon_same (at ws) (cut_at (at xs) k 0 level) (λ a b ha hb. ap decode (is (9 * a + b) (omega arith)) ∙ zero_lim a b ha hb) (cut_canon (at xs) s.canon k 0 hk (omega arith) level zero_ok);
+  }
+
 -- one clock more
 module _ (r : ℕ → Bool) (xs ys : List Code) (n : ℕ) (hn : n < 9) (z : Zeroed r xs ys n) (ws : List Code)
     (is : (p : ℕ) → p < 81 → code_of ws p ≡ cond (r n) (code_cut ys n 0 33554433 p) (code_of ys p)) where
-  split : (k : ℕ) (P : ℕ → Type 0) → k < suc n → (k < n → P k) → P n → P k
-  split k P h f g = ⊎_elim {C = P k} (λ e. subst P (sym e) g) (λ e. f (omega arith)) (cases_eq k n)
-
   module _ (off : r n ≡ false) where
     same : (p : ℕ) → p < 81 → code_of ws p ≡ code_of ys p
     same p h = is p h ∙ cond-false _ _ _ off
@@ -107,10 +110,7 @@ module _ (r : ℕ → Bool) (xs ys : List Code) (n : ℕ) (hn : n < 9) (z : Zero
     zero_on : Zeroed r xs ws (suc n)
     unfolding zero_all
     zero_on = record {
-      sound = record {
-        near = λ p h. subst (Near 4000000) (sym (cut p h)) (near_zero ys z.sound n hn ok p h);
-        canon = canon_same (at ws) (cut_at (at ys) n 0 level) cut_is (cut_canon (at ys) z.sound.canon n 0 hn (omega arith) level (zero_ok ys z.sound n hn ok));
-      };
+      sound = zero_sound ys z.sound n hn ok ws cut;
       is = λ a b ha hb. cut_is a b ha hb ∙ cut_all a b ha hb ∙ sym (cond-true _ _ _ on);
       inn = λ D big v h f a b ha hb. subst (Meets D (v a -ℤ v b)) (sym (cut_is a b ha hb))
           (cut_holds (at ys) z.sound.canon n 0 hn (omega arith) level D big v (z.inn D big v h (λ k l e. f k (omega arith) e)) (f n (omega arith) on) a b ha hb);
@@ -131,6 +131,13 @@ module _ (r : ℕ → Bool) (xs ys : List Code) (n : ℕ) (hn : n < 9) (z : Zero
   pub zero_more : (r n ≡ true → 33554433 ≤ code_of ys n) → Zeroed r xs ws (n + 1)
   zero_more ok = subst (Zeroed r xs ws) (sym (add-one n))
       (⊎_elim {C = Zeroed r xs ws (suc n)} (λ e. zero_on e (ok e)) zero_off (cases_Bool (r n)))
+
+module _ (r : ℕ → Bool) (xs ys : List Code) (n : ℕ) (hn : n < 9) (z : Zeroed r xs ys n) where
+  pub zero_cut : (ws : List Code) → r n ≡ true → 33554433 ≤ code_of ys n → ((p : ℕ) → p < 81 → code_of ws p ≡ code_cut ys n 0 33554433 p) → Zeroed r xs ws (n + 1)
+  zero_cut ws on ok is = zero_more r xs ys n hn z ws (λ p h. is p h ∙ sym (cond-true _ _ _ on)) (λ _. ok)
+
+  pub zero_kept : r n ≡ false → Zeroed r xs ys (n + 1)
+  zero_kept off = zero_more r xs ys n hn z ys (λ p h. sym (cond-false _ _ _ off)) (λ e. (cc))
 
 pub zero_start : (r : ℕ → Bool) (xs : List Code) → Sound xs → Zeroed r xs xs 0
 unfolding zero_all

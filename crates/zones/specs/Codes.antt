@@ -9,8 +9,12 @@ unfoldable pub decode : ℕ → UpperBound
 decode k = cond (nat_lt k 4294967295) (upto (k % 2 == 1) (pos (k / 2) -ℤ pos 16777216)) none
 
 -- the code at p
+abbrev pub code_at : List Code → ℕ → Code
+code_at xs p = slice_index_or xs p (record { 0 = 0 })
+
+-- the number of the code at p
 abbrev pub code_of : List Code → ℕ → ℕ
-code_of xs p = (slice_index_or xs p (record { 0 = 0 })).0
+code_of xs p = (code_at xs p).0
 
 -- the bound at (i, j)
 abbrev pub at : List Code → ℕ → ℕ → UpperBound

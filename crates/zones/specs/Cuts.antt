@@ -1,6 +1,6 @@
 -- What a cut answers, and what the zone then holds.
 use Rattle.zones.specs.declared.codes.Code.{Code}
-use Rattle.std.specs.Prelude.{◌≡◌, ℕ, ◌<◌, Bool, true, ◌⊎◌, List, ℤ, pos, negsuc, ◌-ℤ◌, ◌<ℤ◌, Ok, Err, Result}
+use Rattle.std.specs.Prelude.{◌≡◌, ℕ, ◌<◌, Bool, true, ◌⊎◌, List, ℤ, pos, negsuc, ◌-ℤ◌, ◌≤ℤ◌, ◌<ℤ◌, Ok, Err, Result}
 use Rattle.bounds.specs.declared.refusal.Refusal.{Refusal}
 use Rattle.bounds.specs.Logic.{Iff}
 use Rattle.bounds.specs.Bounds.{UpperBound, none, upto, Meets}
@@ -17,6 +17,11 @@ OfDomain normal xs = (p : ℕ) → p < 81 → normal (decode (code_of xs p)) ≡
 -- a state of the zone that also meets the bound b at (i, j)
 abbrev pub Left : (ℕ → Bool) → ℕ → ℕ → UpperBound → List Code → ℕ → (ℕ → ℤ) → Type 0
 Left allows i j b xs D v = (allows D ≡ true) × (Holds (at xs) D v) × Meets D (v i -ℤ v j) b
+
+-- none, or a number from the low one to the high one
+abbrev pub FromTo : ℤ → ℤ → UpperBound → Type 0
+FromTo low high none = Unit {0}
+FromTo low high (upto s n) = (low ≤ℤ n) × (n ≤ℤ high)
 
 -- a number beyond ±1,000,000, which no cut takes
 unfoldable pub Beyond : UpperBound → Type 0

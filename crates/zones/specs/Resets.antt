@@ -1,6 +1,6 @@
 -- Clocks that are set to 0.
 use Rattle.zones.specs.declared.codes.Code.{Code}
-use Rattle.std.specs.Prelude.{◌≡◌, ℕ, zero, suc, ◌<◌, ◌≤◌, Bool, true, false, ◌&&◌, ◌||◌, List, length, ℤ, pos, ◌-ℤ◌, ◌==◌, nat_lt, slice_index}
+use Rattle.std.specs.Prelude.{◌≡◌, ℕ, zero, suc, ◌<◌, ◌≤◌, Bool, true, false, ◌&&◌, ◌||◌, List, length, ℤ, pos, ◌-ℤ◌, ◌==◌, nat_lt, slice_index, slice_index_or}
 use Rattle.bounds.specs.Bounds.{level, Meets, Tight}
 use Rattle.zones.specs.Matrices.{Holds, zeroed, zero_all}
 use Rattle.zones.specs.Codes.{Sound, at}
@@ -13,6 +13,10 @@ among cs (suc n) i = among cs n i || slice_index cs n == i
 -- a clock of the list, other than clock 0
 unfoldable pub reset : List ℕ → ℕ → Bool
 reset cs i = nat_lt 0 i && among cs (length cs) i
+
+-- clock i is marked as reset
+abbrev pub marked : List Bool → ℕ → Bool
+marked on i = slice_index_or on i false
 
 -- no state lies in the zone once the clocks in r are set to 0
 abbrev pub Stuck : (ℕ → Bool) → List Code → Type 0

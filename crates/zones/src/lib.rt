@@ -1,10 +1,8 @@
 #![tactic(auto)]
 
-mod back;
 pub mod boxes;
 mod codes;
-mod given;
-mod order;
-mod resets;
+mod new_bound;
+mod numbers;
 pub mod state;
 pub mod zone;

@@ -1,10 +1,6 @@
-ghost use Rattle.std.specs.Prelude.{◌≡◌, ℕ, ◌+◌, ◌*◌, ◌<◌, ◌≤◌, true, false, length, pos, ◌-ℤ◌, slice_index};
-ghost use Rattle.bounds.specs.Bounds.{Meets};
-ghost use Rattle.zones.specs.Matrices.{Holds};
-ghost use Rattle.zones.specs.Codes.{Near, decode, at, code_of};
-ghost use Rattle.zones.specs.States.{value_of, reading, StateSays};
+ghost use Rattle.std.specs.Prelude.{◌≡◌};
+ghost use Rattle.zones.specs.States.{value_of, StateSays};
 
-use crate::codes::{BIAS, Code};
 use bounds::refusal::Refusal;
 use bounds::time::TimeDomain;
 
@@ -20,79 +16,22 @@ impl State<'_> {
     pub fn check<T: TimeDomain>(&self, time: &T) -> Result<(), Refusal>
         ensures { StateSays (T.allows time.now) self.now.scale self.now.readings.now result }
     {
-        if self.readings.len() > 8 {
-            return Err(Refusal::State);
-        }
-        if self.scale < 1 {
-            return Err(Refusal::State);
-        }
-        if self.scale > 1000 {
-            return Err(Refusal::State);
-        }
-        if !time.allows_scale(self.scale) {
-            return Err(Refusal::State);
-        }
-        if !small(self.readings) {
-            return Err(Refusal::State);
-        }
-        Ok(())
+        let is_good = self.readings.len() <= 8
+            && self.scale >= 1
+            && self.scale <= 1000
+            && time.allows_scale(self.scale)
+            && self.readings.iter().all(|x| *x <= 1_000_000_000);
+        if is_good { Ok(()) } else { Err(Refusal::State) }
     }
-}
 
-// What clock i reads: clock 0 and a clock beyond the readings read 0.
-fn value(readings: &[u32], i: usize) -> u32
-    ensures { result ≡ value_of readings.now i }
-{
-    if i >= 1 && i <= readings.len() {
-        readings[i - 1]
-    } else {
-        0
-    }
-}
-
-// Whether no reading is above 1,000,000,000.
-fn small(readings: &[u32]) -> bool
-    ensures { (result ≡ true → (k : ℕ) → k < length readings.now → slice_index readings.now k ≤ 1000000000) × (result ≡ false → (k : ℕ) × (k < length readings.now) × (1000000000 < slice_index readings.now k)) }
-{
-    for x in readings {
-        if *x > 1_000_000_000 {
-            return false;
+    // What clock i reads: clock 0 and a clock beyond the readings read 0.
+    pub(crate) fn reading(&self, i: usize) -> u32
+        ensures { result ≡ value_of self.now.readings.now i }
+    {
+        // A `match`: `and_then` and `unwrap_or` in its place were proved too, but `holds` took a seventh longer.
+        match i.checked_sub(1) {
+            Some(k) => self.readings.get(k).copied().unwrap_or(0),
+            None => 0,
         }
     }
-    true
-}
-
-// Whether a - b, read at the scale, meets the bound of the code.
-fn meets(code: Code, scale: u32, a: u32, b: u32) -> bool
-    requires { (Near 4000000 code.0) × (scale ≤ 1000) }
-    ensures { (result ≡ true → Meets scale (pos a -ℤ pos b) (decode code.0)) × (Meets scale (pos a -ℤ pos b) (decode code.0) → result ≡ true) }
-{
-    if code.0 == u32::MAX {
-        return true;
-    }
-    let left = a as u64 + BIAS as u64 * scale as u64;
-    let right = b as u64 + (code.0 / 2) as u64 * scale as u64;
-    if code.0 % 2 == 1 {
-        left <= right
-    } else {
-        left < right
-    }
-}
-
-// Whether the readings at the scale meet every bound.
-pub(crate) fn met(codes: &[Code; 81], scale: u32, readings: &[u32]) -> bool
-    requires { (((p : ℕ) → p < 81 → Near 4000000 (code_of codes.now p))) × (scale ≤ 1000) }
-    ensures { (result ≡ true → Holds (at codes.now) scale (reading readings.now)) × (Holds (at codes.now) scale (reading readings.now) → result ≡ true) }
-{
-    for p in 0..81 {
-        if !meets(
-            codes[p],
-            scale,
-            value(readings, p / 9),
-            value(readings, p % 9),
-        ) {
-            return false;
-        }
-    }
-    true
 }

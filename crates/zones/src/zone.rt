@@ -1,25 +1,28 @@
-ghost use Rattle.std.specs.Prelude.{◌≡◌, ℕ, ◌<◌, ◌≤◌, true, false, ℤ, pos, ◌≤ℤ◌};
-ghost use Rattle.bounds.specs.Bounds.{upto, none};
-ghost use Rattle.bounds.specs.Sums.{bound_of};
-ghost use Rattle.bounds.specs.Logic.{Iff};
+ghost use Rattle.std.specs.Prelude.{◌≡◌, ℕ, ◌<◌, ◌≤◌, true, MatchResult};
+ghost use Rattle.bounds.specs.declared.refusal.Refusal.TheVariants as refused;
 ghost use Rattle.bounds.specs.Domains.{scales, hand_allows};
-ghost use Rattle.zones.specs.Codes.{Sound, Near, at, decode, code_all, code_of};
-ghost use Rattle.zones.specs.Matrices.{Holds};
-ghost use Rattle.zones.specs.Cuts.{CodeOf, CutSays, Fit, OfDomain};
+ghost use Rattle.bounds.specs.Logic.{Iff};
+ghost use Rattle.bounds.specs.Sums.{bound_of};
 ghost use Rattle.zones.specs.Boxes.{BoxSays};
 ghost use Rattle.zones.specs.Calls.{BackSays, WithinSays, HoldsSays, UndoSays, HasState, AllSays, BoundSays};
+ghost use Rattle.zones.specs.Codes.{Sound, code_all, code_of};
+ghost use Rattle.zones.specs.Cuts.{CutSays, OfDomain};
 
-use crate::back::backed;
-use crate::boxes::{ClockBox, column, plain, row, step_bound};
-use crate::codes::{Code, LEVEL, NONE, coded, decoded, joined, tightened};
-use crate::order::no_looser;
-use crate::resets::{freed, named, zeroed};
-use crate::state::{State, met};
+use crate::boxes::ClockBox;
+use crate::codes::{Code, LEVEL, NONE, every};
+use crate::new_bound::NewBound;
+use crate::numbers::is_from_to;
+use crate::state::State;
 use bounds::bound::Bound;
 use bounds::refusal::Refusal;
 use bounds::time::TimeDomain;
+use resets::named;
 
+mod back;
 mod given;
+mod held;
+mod resets;
+mod ways;
 
 // A zone: for the clocks 0 to 8, where clock 0 reads 0, a bound on each reading minus each other.
 // The code of the bound at (i, j), on reading i minus reading j, stands at 9 i + j.
@@ -42,8 +45,8 @@ impl Zone {
         ensures { AllSays result.codes }
     {
         let mut codes = [NONE; 81];
-        for p in 0..81 {
-            codes[p] = open_code(p);
+        for (p, code) in codes.iter_mut().enumerate() {
+            *code = open_code(p);
         }
         Zone { codes }
     }
@@ -52,14 +55,8 @@ impl Zone {
     pub fn bound(&self, i: usize, j: usize) -> Result<Option<Bound>, Refusal>
         ensures { BoundSays i j self.now.codes result }
     {
-        if i > 8 || j > 8 {
-            return Err(Refusal::Name);
-        }
-        let code = self.codes[9 * i + j];
-        if code.0 == u32::MAX {
-            return Ok(None);
-        }
-        Ok(Some(decoded(code)))
+        check_clocks(i, j)?;
+        Ok(self.codes[9 * i + j].bound())
     }
 
     // Keeps the states that also meet the bound at (i, j).
@@ -72,94 +69,39 @@ impl Zone {
     ) -> Result<Cut, Refusal>
         ensures { CutSays (scales (T.allows time.now)) (T.normal time.now) i j (bound_of bound) self.old.codes self.new.codes result }
     {
-        match bound {
-            Some(b) => self.cut_by(time, i, j, b),
-            None => self.cut_by_none(time, i, j),
-        }
-    }
-
-    // The cut by no bound, which changes nothing.
-    fn cut_by_none<T: TimeDomain>(&mut self, time: &T, i: usize, j: usize) -> Result<Cut, Refusal>
-        ensures { CutSays (scales (T.allows time.now)) (T.normal time.now) i j none self.old.codes self.new.codes result }
-    {
-        if i > 8 || j > 8 {
-            return Err(Refusal::Name);
-        }
-        if !of_domain(&self.codes, time) {
+        check_clocks(i, j)?;
+        if !is_from_to(bound, -1_000_000, 1_000_000) {
             return Err(Refusal::Number);
         }
-        Ok(Cut::Kept)
-    }
-
-    // The cut by a bound.
-    fn cut_by<T: TimeDomain>(
-        &mut self,
-        time: &T,
-        i: usize,
-        j: usize,
-        bound: Bound,
-    ) -> Result<Cut, Refusal>
-        ensures { CutSays (scales (T.allows time.now)) (T.normal time.now) i j (upto bound.closed bound.number) self.old.codes self.new.codes result }
-    {
-        if i > 8 || j > 8 {
-            return Err(Refusal::Name);
-        }
-        if bound.number < -1_000_000 || bound.number > 1_000_000 {
-            return Err(Refusal::Number);
-        }
-        if !of_domain(&self.codes, time) {
-            return Err(Refusal::Number);
-        }
-        match time.normal_form(bound) {
-            Err(why) => Err(why),
-            Ok(t) => self.tighten(time, i, j, bound, coded(t)),
-        }
-    }
-
-    // The cut at (i, j) by a bound, given the code of its normal form.
-    fn tighten<T: TimeDomain>(
-        &mut self,
-        time: &T,
-        i: usize,
-        j: usize,
-        bound: Bound,
-        code: Code,
-    ) -> Result<Cut, Refusal>
-        requires fit { Fit (T.normal time.now) i j (upto bound.closed bound.number) self.old.codes }
-        requires code { CodeOf (T.normal time.now (upto bound.closed bound.number)) code.0 }
-        ensures { CutSays (scales (T.allows time.now)) (T.normal time.now) i j (upto bound.closed bound.number) self.old.codes self.new.codes result }
-    {
-        if joined(self.codes[9 * j + i], code).0 < LEVEL.0 {
-            return Ok(Cut::Empty);
-        }
-        match tightened(&self.codes, i, j, code) {
-            Some(next) => {
-                self.codes = next;
-                Ok(Cut::Kept)
-            }
-            None => Err(Refusal::Range),
-        }
+        self.check(time)?;
+        let Some(bound) = bound else {
+            return Ok(Cut::Kept);
+        };
+        let normal = time.normal_form(bound)?;
+        let new = NewBound {
+            row: i,
+            column: j,
+            code: Code::of(normal),
+        };
+        self.tighten(time, bound, new)
     }
 
     // Keeps the states in the box: clock by clock, the lower bound first, until nothing is left or a number is out of range.
     pub fn cut_box<T: TimeDomain>(&mut self, time: &T, clock_box: &ClockBox) -> Result<Cut, Refusal>
         ensures { BoxSays (scales (T.allows time.now)) (T.normal time.now) clock_box.now.sides self.old.codes self.new.codes result }
     {
-        if !plain(&clock_box.sides) {
+        if !clock_box.is_plain() {
             return Err(Refusal::Number);
         }
-        if !of_domain(&self.codes, time) {
-            return Err(Refusal::Number);
-        }
+        self.check(time)?;
         let mut next = *self;
-        for s in 0..16 {
-            match next.cut(time, row(s), column(s), step_bound(&clock_box.sides, s)) {
-                Err(why) => return Err(why),
-                Ok(left) => match left {
-                    Cut::Empty => return Ok(Cut::Empty),
-                    Cut::Kept => {}
-                },
-            }
+        for (k, side) in clock_box.sides.iter().enumerate() {
+            let Cut::Kept = next.cut(time, 0, k + 1, side.turned_lower())? else {
+                return Ok(Cut::Empty);
+            };
+            let Cut::Kept = next.cut(time, k + 1, 0, side.upper)? else {
+                return Ok(Cut::Empty);
+            };
         }
         *self = next;
         Ok(Cut::Kept)
@@ -169,11 +111,8 @@ impl Zone {
     pub fn back<T: TimeDomain>(&mut self, time: &T) -> Result<(), Refusal>
         ensures { BackSays (scales (T.allows time.now)) (T.normal time.now) self.old.codes self.new.codes result }
     {
-        if !of_domain(&self.codes, time) {
-            return Err(Refusal::Number);
-        }
-        let next = backed(&self.codes);
-        self.codes = next;
+        self.check(time)?;
+        *self = self.backed();
         Ok(())
     }
 
@@ -181,33 +120,22 @@ impl Zone {
     pub fn undo<T: TimeDomain>(&mut self, time: &T, clocks: &[usize]) -> Result<Cut, Refusal>
         ensures { UndoSays (scales (T.allows time.now)) (T.normal time.now) clocks.now self.old.codes self.new.codes result }
     {
-        match named(clocks) {
-            None => Err(Refusal::Name),
-            Some(on) => {
-                if !of_domain(&self.codes, time) {
-                    return Err(Refusal::Number);
-                }
-                match zeroed(&self.codes, &on) {
-                    None => Ok(Cut::Empty),
-                    Some(zero) => {
-                        let next = freed(&zero, &on);
-                        self.codes = next;
-                        Ok(Cut::Kept)
-                    }
-                }
-            }
-        }
+        let on = named(clocks).ok_or(Refusal::Name)?;
+        self.check(time)?;
+        let Some(zero) = self.zeroed(&on) else {
+            return Ok(Cut::Empty);
+        };
+        self.codes = zero.freed(&on);
+        Ok(Cut::Kept)
     }
 
     // Whether the zone holds the state.
     pub fn holds<T: TimeDomain>(&self, time: &T, state: &State) -> Result<bool, Refusal>
         ensures { HoldsSays (T.allows time.now) (T.normal time.now) state.now.scale state.now.readings.now self.now.codes result }
     {
-        if !of_domain(&self.codes, time) {
-            return Err(Refusal::Number);
-        }
+        self.check(time)?;
         state.check(time)?;
-        Ok(met(&self.codes, state.scale, state.readings))
+        Ok(self.met(state))
     }
 
     // Whether the zone is of the time domain: every bound of it is in normal form.
@@ -217,19 +145,26 @@ impl Zone {
         ensures state { result ≡ true → HasState (scales (T.allows time.now)) self.now.codes }
         ensures some { HasState (scales hand_allows) self.now.codes }
     {
-        of_domain(&self.codes, time)
+        every(&self.codes, |code| code.is_normal(time))
+    }
+
+    // Refuses, by Number, a zone that is not of the time domain.
+    fn check<T: TimeDomain>(&self, time: &T) -> Result<(), Refusal>
+        ensures { MatchResult result (λ _. OfDomain (T.normal time.now) self.now.codes) (λ e. (e ≡ refused.Number) × (OfDomain (T.normal time.now) self.now.codes → ⊥)) }
+    {
+        if self.is_of(time) {
+            Ok(())
+        } else {
+            Err(Refusal::Number)
+        }
     }
 
     // Whether every state of this zone lies in the other.
     pub fn within<T: TimeDomain>(&self, other: &Zone, time: &T) -> Result<bool, Refusal>
         ensures { WithinSays (scales (T.allows time.now)) (T.normal time.now) self.now.codes other.now.codes result }
     {
-        if !of_domain(&self.codes, time) {
-            return Err(Refusal::Number);
-        }
-        if !of_domain(&other.codes, time) {
-            return Err(Refusal::Number);
-        }
+        self.check(time)?;
+        other.check(time)?;
         Ok(no_looser(&self.codes, &other.codes))
     }
 }
@@ -241,35 +176,20 @@ fn open_code(p: usize) -> Code
     if p < 9 || p % 10 == 0 { LEVEL } else { NONE }
 }
 
-// Whether the bound of the code is in normal form.
-fn normal_code<T: TimeDomain>(code: Code, time: &T) -> bool
-    requires { Near 4000000 code.0 }
-    ensures { (result ≡ true → T.normal time.now (decode code.0) ≡ decode code.0) × (T.normal time.now (decode code.0) ≡ decode code.0 → result ≡ true) }
+// Refuses, by Name, a clock above 8.
+fn check_clocks(i: usize, j: usize) -> Result<(), Refusal>
+    ensures { MatchResult result (λ _. (i < 9) × (j < 9)) (λ e. (e ≡ refused.Name) × ((i < 9 × (j < 9)) → ⊥)) }
 {
-    if code.0 == u32::MAX {
-        return true;
-    }
-    let l = decoded(code);
-    match time.normal_form(l) {
-        Err(_) => false,
-        Ok(t) => {
-            if t.closed != l.closed || t.number != l.number {
-                return false;
-            }
-            true
-        }
+    if i < 9 && j < 9 {
+        Ok(())
+    } else {
+        Err(Refusal::Name)
     }
 }
 
-// Whether every bound is in normal form.
-fn of_domain<T: TimeDomain>(codes: &[Code; 81], time: &T) -> bool
-    requires { Sound codes.now }
-    ensures { (result ≡ true → OfDomain (T.normal time.now) codes.now) × (OfDomain (T.normal time.now) codes.now → result ≡ true) }
+// Whether each bound is as tight as the other's, or tighter.
+fn no_looser(a: &[Code; 81], b: &[Code; 81]) -> bool
+    ensures { Iff (result ≡ true) ((p : ℕ) → p < 81 → code_of a.now p ≤ code_of b.now p) }
 {
-    // No early return: the loop then runs several codes at a time.
-    let mut every = true;
-    for p in 0..81 {
-        every = every & normal_code(codes[p], time);
-    }
-    every
+    a.iter().zip(b).all(|(x, y)| x <= y)
 }

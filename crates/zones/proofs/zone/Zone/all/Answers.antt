@@ -5,11 +5,11 @@ use Rattle.zones.proofs.zone.Zone.all.Goals as goal
 
 pub loop-p-preserved : goal.loop-p-preserved
 loop-p-preserved c =
-    let lt : c.loop-p.p < length c.loop-p.codes = omega arith in (
+    let lt : c.loop-p.p < length c.loop-p.code-items = omega arith in (
       simp length-set c.loop-p.invariant.0,
       below_more _ _
-          (λ k h. let ne : k ≢ c.loop-p.p = omega arith in code_other c.loop-p.codes c.loop-p.p k _ ne ∙ c.loop-p.invariant.1 k h)
-          (code_same c.loop-p.codes c.loop-p.p _ lt ∙ c.open_code.ensures),
+          (λ k h. let ne : k ≢ c.loop-p.p = omega arith in code_other c.loop-p.code-items c.loop-p.p k _ ne ∙ c.loop-p.invariant.1 k h)
+          (code_same c.loop-p.code-items c.loop-p.p _ lt ∙ c.open_code.ensures),
     )
 
 pub invariant_of-result : goal.invariant_of-result

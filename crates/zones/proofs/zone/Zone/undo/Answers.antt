@@ -1,5 +1,6 @@
 use Rattle.std.proofs.Common.{◌≡◌, ℕ, Bool, false, get_or, sym, refl, ◌∙◌, arith}
 use Rattle.bounds.proofs.ScaleLaws.{scale_laws, scale_big}
+use Rattle.std.proofs.lemmas.Option.{MatchOption-at_some}
 use Rattle.zones.specs.Codes.{at}
 use Rattle.zones.specs.Resets.{reset}
 use Rattle.zones.proofs.Props.{sound}
@@ -7,53 +8,47 @@ use Rattle.zones.proofs.Lists.{reset_0}
 use Rattle.zones.proofs.Outcomes.{held_same, undo_same, undo_is, undo_sound, undo_kept, undo_exact}
 use Rattle.zones.proofs.zone.Zone.undo.Goals as goal
 
-pub of_domain-requires : goal.of_domain-requires
-of_domain-requires g c = sound _ c.args.self.now.ok
-
-pub zeroed-requires : goal.zeroed-requires
-zeroed-requires g c = sound _ c.args.self.now.ok
-
 pub invariant_of-self : goal.invariant_of-self
 invariant_of-self g c =
     let xs = c.args.self.now.codes in
-    let n = c.in-Some.ensures in
-    let r0 : get_or c.in-Some.on 0 false ≡ false = n.1 0 (omega arith) ∙ reset_0 c.args.clocks.now in
-    record { ok = ∣ undo_sound (λ i. get_or c.in-Some.on i false) r0 xs c.in-Some-zeroed.zero c.freed-next.result c.in-Some-zeroed.ensures c.freed-next.ensures ∣₁ }
+    let n = MatchOption-at_some _ _ _ c.in_ok-on.ensures.ok_part c.named.ensures in
+    let r0 : get_or c.in_ok-on.on 0 false ≡ false = n.1 0 (omega arith) ∙ reset_0 c.args.clocks.now in
+    record { ok = ∣ undo_sound (λ i. get_or c.in_ok-on.on i false) r0 xs c.in-Some.zero.codes c.freed-self.result c.in-Some.ensures c.freed-self.ensures ∣₁ }
 
-pub returns-in-None-zeroed : goal.returns-in-None-zeroed
-returns-in-None-zeroed g c =
+pub returns-in_default : goal.returns-in_default
+returns-in_default g c =
     let k = c.args.time.now in
     let t = g.T.TimeDomain in
     let laws = scale_laws (t.allows k) (t.normal k) (t.lawful k) in
     let xs = c.args.self.now.codes in
     let s = sound xs c.args.self.now.ok in
-    let n = c.in-Some.ensures in
+    let n = MatchOption-at_some _ _ _ c.in_ok-on.ensures.ok_part c.named.ensures in
     let q : ℕ → Bool = reset c.args.clocks.now in
-    let r : ℕ → Bool = λ i. get_or c.in-Some.on i false in
-    let keeps = c.of_domain.ensures.0 c.if-not-of_domain.false in
+    let r : ℕ → Bool = λ i. get_or c.in_ok-on.on i false in
+    let keeps = c.in_ok-check.ensures in
     record {
       known = n.0;
       was_of_domain = keeps;
-      gone = λ D v al rd h. c.in-None-zeroed.ensures D (scale_big (t.allows k) D al) v rd.0 (held_same q r (λ i l. sym (n.1 i l)) (at xs) D v h);
+      gone = λ D v al rd h. c.in_default.ensures D (scale_big (t.allows k) D al) v rd.0 (held_same q r (λ i l. sym (n.1 i l)) (at xs) D v h);
       unchanged = refl;
     }
 
-pub returns-in-Some-zeroed : goal.returns-in-Some-zeroed
-returns-in-Some-zeroed g c =
+pub returns : goal.returns
+returns g c =
     let k = c.args.time.now in
     let t = g.T.TimeDomain in
     let laws = scale_laws (t.allows k) (t.normal k) (t.lawful k) in
     let xs = c.args.self.now.codes in
     let s = sound xs c.args.self.now.ok in
-    let n = c.in-Some.ensures in
+    let n = MatchOption-at_some _ _ _ c.in_ok-on.ensures.ok_part c.named.ensures in
     let q : ℕ → Bool = reset c.args.clocks.now in
-    let r : ℕ → Bool = λ i. get_or c.in-Some.on i false in
-    let r0 : get_or c.in-Some.on 0 false ≡ false = n.1 0 (omega arith) ∙ reset_0 c.args.clocks.now in
-    let zs = c.in-Some-zeroed.zero in
-    let z = c.in-Some-zeroed.ensures in
-    let ys = c.freed-next.result in
-    let is = c.freed-next.ensures in
-    let keeps = c.of_domain.ensures.0 c.if-not-of_domain.false in
+    let r : ℕ → Bool = λ i. get_or c.in_ok-on.on i false in
+    let r0 : get_or c.in_ok-on.on 0 false ≡ false = n.1 0 (omega arith) ∙ reset_0 c.args.clocks.now in
+    let zs = c.in-Some.zero.codes in
+    let z = c.in-Some.ensures in
+    let ys = c.freed-self.result in
+    let is = c.freed-self.ensures in
+    let keeps = c.in_ok-check.ensures in
     record {
       known = n.0;
       was_of_domain = keeps;
