@@ -1,28 +1,8 @@
 -- Boxes narrowed by boxes.
-use Rattle.std.specs.Prelude.{ℕ, zero, suc, Bool, cond, not, ◌&&◌, ◌||◌, List, [], ◌∷◌, Some, None, Option, int_le, int_lt}
-use Rattle.bounds.specs.declared.bound.Bound.{Bound}
+use Rattle.std.specs.Prelude.{ℕ, zero, suc, List, [], ◌∷◌}
+pub use Rattle.bounds.specs.Tighter.{below, above, lowest, highest}
 use Rattle.zones.specs.declared.boxes.Side.{Side}
 use Rattle.zones.specs.declared.boxes.ClockBox.{ClockBox}
-
--- as upper bounds: a is tighter than b
-abbrev pub below : Bound → Bound → Bool
-below a b = int_lt a.number b.number || (int_le a.number b.number && (not a.closed && b.closed))
-
--- as lower bounds: a is tighter than b
-abbrev pub above : Bound → Bound → Bool
-above a b = int_lt b.number a.number || (int_le b.number a.number && (not a.closed && b.closed))
-
--- the tighter of two upper bounds
-abbrev pub lowest : Option Bound → Option Bound → Option Bound
-lowest None b = b
-lowest (Some a) None = Some a
-lowest (Some a) (Some b) = cond (below a b) (Some a) (Some b)
-
--- the tighter of two lower bounds
-abbrev pub highest : Option Bound → Option Bound → Option Bound
-highest None b = b
-highest (Some a) None = Some a
-highest (Some a) (Some b) = cond (above a b) (Some a) (Some b)
 
 -- both sides at once
 abbrev pub both : Side → Side → Side

@@ -1,4 +1,4 @@
-ghost use Rattle.std.specs.Prelude.{◌≡◌, ◌<◌, ◌≤◌, if◌then◌else◌, MatchResult, nat_lt};
+ghost use Rattle.std.specs.Prelude.{◌≡◌, ◌≤◌, if◌then◌else◌, MatchResult, nat_lt};
 ghost use Rattle.layers.specs.Deadlines.{timed, under, DeadlineMeans, DeadlineRefused};
 ghost use Rattle.layers.specs.LayersSound.{under_sound};
 ghost use Rattle.layers.specs.Theorems.{DeadlineRuns, DeadlineRoutes, DeadlineStates, StackedRoutes, MixedRoutes};
@@ -9,7 +9,7 @@ use bounds::bound::Bound;
 use bounds::refusal::Refusal;
 use plans::plan::Plan;
 use plans::rows::{Goal, Move, Outcome, Position};
-use zones::boxes::{ClockBox, Side};
+use zones::boxes::Side;
 
 // A deadline over any plan: one clock more, that nothing resets, and at most `ticks` ticks on it in every goal.
 #[derive(Drop)]
@@ -66,6 +66,7 @@ pub fn ticks_in_boxes<P: Plan>(d: &Deadline<Restriction<P>>) -> u32
     d.ticks
 }
 
+// The calls that are the plan's below are handed on one by one: no trait can do so for every layer, since Plan is another crate's.
 impl<P: Plan> Plan for Deadline<P> {
     type Time = P::Time;
 
@@ -111,29 +112,21 @@ impl<P: Plan> Plan for Deadline<P> {
     }
 
     fn goal(&self, k: usize) -> Result<Goal, Refusal> {
-        match self.below.goal(k) {
-            Ok(g) => Ok(timed_goal(g, self.ticks, self.below.clocks())),
-            Err(e) => Err(e),
-        }
+        let g = self.below.goal(k)?;
+        Ok(timed_goal(g, self.ticks, self.below.clocks()))
     }
 }
 
 // The goal with the deadline on the clock after the first `clocks`.
-fn timed_goal(g: Goal, ticks: u32, clocks: usize) -> Goal
+fn timed_goal(mut g: Goal, ticks: u32, clocks: usize) -> Goal
     requires { ticks ≤ 1000000 }
     ensures { result ≡ (if nat_lt clocks 8 then timed ticks clocks g else g) }
 {
     if clocks < 8 {
-        let mut sides = g.area.sides;
-        sides[clocks] = Side {
-            lower: None,
+        g.area.sides[clocks] = Side {
             upper: Some(Bound::at_most(ticks as i32)),
+            ..Side::default()
         };
-        Goal {
-            position: g.position,
-            area: ClockBox { sides },
-        }
-    } else {
-        g
     }
+    g
 }

@@ -1,4 +1,4 @@
-ghost use Rattle.std.specs.Prelude.{◌≡◌, ◌-◌, ◌<◌, ◌≤◌, MatchResult, slice_index_or};
+ghost use Rattle.std.specs.Prelude.{◌≡◌, ◌-◌, ◌≤◌, MatchResult, slice_index_or};
 ghost use Rattle.plans.specs.Meaning.{no_box};
 ghost use Rattle.layers.specs.Narrowing.{narrow_box};
 ghost use Rattle.layers.specs.Restrictions.{restricted, RestrictionRefused, BoxesFor};
@@ -32,10 +32,11 @@ impl<'a, P: Plan> Restriction<'a, P> {
                 below,
             });
         }
-        match check_boxes(boxes, below.clocks()) {
-            Ok(()) => Ok(Restriction { below, boxes }),
-            Err(refusal) => Err(NotLaid { refusal, below }),
+        // No `map_err`: its closure would take the plan away from the restriction.
+        if let Err(refusal) = check_boxes(boxes, below.clocks()) {
+            return Err(NotLaid { refusal, below });
         }
+        Ok(Restriction { below, boxes })
     }
 
     // The boxes that the invariants are narrowed by.
@@ -48,6 +49,7 @@ impl<'a, P: Plan> Restriction<'a, P> {
     }
 }
 
+// The calls that are the plan's below are handed on one by one: no trait can do so for every layer, since Plan is another crate's.
 impl<'a, P: Plan> Plan for Restriction<'a, P> {
     type Time = P::Time;
 
@@ -68,10 +70,8 @@ impl<'a, P: Plan> Plan for Restriction<'a, P> {
     }
 
     fn position(&self, k: usize) -> Result<Position, Refusal> {
-        match self.below.position(k) {
-            Ok(p) => Ok(narrow_position(self.boxes, k, self.below.clocks(), p)),
-            Err(e) => Err(e),
-        }
+        let p = self.below.position(k)?;
+        Ok(narrow_position(self.boxes, k, self.below.clocks(), p))
     }
 
     fn moves(&self) -> usize {
@@ -104,12 +104,10 @@ fn narrow_position(boxes: &[ClockBox], k: usize, clocks: usize, p: Position) -> 
     requires { (1 ≤ k) × (clocks ≤ 8) }
     ensures { result.invariant ≡ narrow_box clocks (slice_index_or boxes.now (k - 1) no_box) p.invariant }
 {
-    let i = k - 1;
-    if i < boxes.len() {
-        Position {
-            invariant: narrow(boxes[i], clocks, p.invariant),
-        }
-    } else {
-        p
+    match boxes.get(k - 1) {
+        Some(b) => Position {
+            invariant: narrow(*b, clocks, p.invariant),
+        },
+        None => p,
     }
 }

@@ -1,4 +1,4 @@
-pub mod Taken
 pub mod Scaled
 pub mod Chances
+pub mod FirstRows
 pub mod ZoneBoxes

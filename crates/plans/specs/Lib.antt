@@ -5,6 +5,8 @@ pub mod Meaning
 pub mod Routes
 pub mod Journeys
 pub mod BoxChecks
+pub mod Faults
 pub mod RowChecks
+pub mod FirstFaults
 pub mod Sound
 pub mod Tables

@@ -1,5 +1,5 @@
 -- Which rows are refused, and by what.
-use Rattle.std.specs.Prelude.{◌≡◌, ℕ, ◌+◌, ◌<◌, ◌≤◌, Bool, false, ◌≢◌, ◌⊎◌, List, length, get_or, Ok, Err, Result, slice_index_or}
+use Rattle.std.specs.Prelude.{◌≡◌, ℕ, ◌+◌, ◌<◌, ◌≤◌, Bool, false, ◌≢◌, ◌⊎◌, List, length, get_or, map, filter, ◌==◌, Some, None, Ok, Err, Result, slice_index_or}
 use Rattle.bounds.specs.declared.refusal.Refusal.{Refusal}
 use Rattle.bounds.specs.declared.refusal.Refusal.TheVariants as refused
 use Rattle.zones.specs.declared.boxes.ClockBox.{ClockBox}
@@ -65,9 +65,13 @@ GoalsFine n p gs k = (j : ℕ) → j < k → Names p (get_or gs j no_goal).posit
 abbrev pub ChancesFine : List Outcome → ℕ → Type 0
 ChancesFine os k = (j : ℕ) → 1 ≤ j → j ≤ k → chances j os ≡ 1000
 
+-- the chances of move k, from 1, one by one
+abbrev pub chances_in : ℕ → List Outcome → List ℕ
+chances_in k os = map (λ (o : Outcome). o.chance) (filter (λ (o : Outcome). o.cause == k) os)
+
 -- the first of n rows that is wrong, told by list and row
 abbrev pub FirstFault : PlanList → ℕ → (ℕ → Type 0) → (ℕ → Refusal → Type 0) → RowFault → Type 0
-FirstFault l n Before Wrong-at f = (k : ℕ) × (k < n) × (f.list ≡ l) × (f.row ≡ k + 1) × Before k × Wrong-at k f.refusal
+FirstFault l n Before Wrong-at f = (k : ℕ) × (k < n) × (f.list ≡ l) × (f.row ≡ Some (k + 1)) × Before k × Wrong-at k f.refusal
 
 abbrev pub PositionFault : ℕ → List Position → RowFault → Type 0
 PositionFault n ps = FirstFault list.Positions (length ps) (PositionsFine n ps) (λ k e. Wrong n (get_or ps k no_position).invariant e)
@@ -114,8 +118,8 @@ pub record RowsFine (n : ℕ) (ps : List Position) (vs : List Move) (os : List O
 
 -- what it refuses, in its order
 pub data RowsWrong (n : ℕ) (ps : List Position) (vs : List Move) (os : List Outcome) (gs : List Goal) (f : RowFault) : Type 0 where
-  clocks : (Names 8 n → ⊥) → f ≡ record { refusal = refused.Number; list = list.Clocks; row = 0 } → RowsWrong n ps vs os gs f
-  counts : Names 8 n → CountWrong (length ps) (length vs) (length os) (length gs) f.list → f.refusal ≡ refused.Rows → f.row ≡ 0 → RowsWrong n ps vs os gs f
+  clocks : (Names 8 n → ⊥) → f ≡ record { refusal = refused.Number; list = list.Clocks; row = None } → RowsWrong n ps vs os gs f
+  counts : Names 8 n → CountWrong (length ps) (length vs) (length os) (length gs) f.list → f.refusal ≡ refused.Rows → f.row ≡ None → RowsWrong n ps vs os gs f
   position : Sized n ps vs os gs → PositionFault n ps f → RowsWrong n ps vs os gs f
   move : Sized n ps vs os gs → AllPositions n ps → MoveFault n (length ps) vs f → RowsWrong n ps vs os gs f
   outcome : Sized n ps vs os gs → AllPositions n ps → AllMoves n ps vs → OutcomeFault n (length ps) (length vs) os f → RowsWrong n ps vs os gs f

@@ -1,11 +1,13 @@
-ghost use Rattle.std.specs.Prelude.{◌≡◌, ◌+◌, ◌-◌, ◌^◌, ◌<◌, ◌≤◌, true, length, Decides};
-ghost use Rattle.plans.specs.Items.{Item, Names};
-ghost use Rattle.plans.specs.RowLists.{kept, taken, emptied, PushSays, SetSays, AddSays, move_row, raised, changed};
+ghost use Rattle.std.specs.Prelude.{◌≡◌, ◌+◌, ◌<◌, ◌≤◌, length, MatchResult};
+ghost use Rattle.plans.specs.Items.{Item};
+ghost use Rattle.plans.specs.RowLists.{kept, taken, emptied, PushSays, SetSays, AddSays};
 
 use super::rows::Move;
 use bounds::refusal::Refusal;
 
 // Rows of any sort in a lent slice, taken from its start. The rows behind those taken hold what they held.
+// There is no heap, so the count of rows taken stands beside the slice.
+// Each call says by `same` that the slice is still the one that was lent, which no ghost field can: it speaks of one list, not of two.
 #[derive(Drop)]
 pub struct RowList<'a, R> {
     rows: &'a mut [R],
@@ -36,32 +38,27 @@ impl<'a, R: Copy> RowList<'a, R> {
         if self.used >= self.rows.len() {
             return Err(Refusal::Rows);
         }
-        let k = self.used;
-        self.rows[k] = row;
-        self.used = k + 1;
-        Ok(k + 1)
+        // Written by index: through `get_mut` the proof does not close.
+        self.rows[self.used] = row;
+        self.used += 1;
+        Ok(self.used)
     }
 
-    // Whether row k, from 1, is taken.
-    fn has(&self, k: usize) -> bool
-        ensures is { Decides result (Names (length (taken (kept self.now))) k) }
-        ensures supplied { result ≡ true → (1 ≤ k) × (k ≤ self.now.used) × (k ≤ length self.now.rows.now) }
+    // Where row k, from 1, stands; refused by Entry where no such row is taken.
+    fn place(&self, k: usize) -> Result<usize, Refusal>
+        ensures { MatchResult result (λ i. (i + 1 ≡ k) × (k ≤ length (taken (kept self.now)))) (λ e. (e ≡ Refusal.Entry) × (1 ≤ k → length (taken (kept self.now)) < k)) }
     {
-        if k > self.rows.len() {
-            return false;
+        if k == 0 || k > self.rows().len() {
+            return Err(Refusal::Entry);
         }
-        k >= 1 && k <= self.used
+        Ok(k - 1)
     }
 
     // Row k, from 1; refused by Entry where no such row is taken.
     pub fn get(&self, k: usize) -> Result<R, Refusal>
         ensures { Item (taken (kept self.now)) k result }
     {
-        if !self.has(k) {
-            return Err(Refusal::Entry);
-        }
-        let rows: &[R] = self.rows;
-        Ok(rows[k - 1])
+        Ok(self.rows()[self.place(k)?])
     }
 
     // Puts another row in place of row k, from 1; refused by Entry where no such row is taken.
@@ -69,10 +66,8 @@ impl<'a, R: Copy> RowList<'a, R> {
         ensures is { SetSays k row (kept self.old) (kept self.new) result }
         ensures same { self.new.rows.ghost_name ≡ self.old.rows.ghost_name }
     {
-        if !self.has(k) {
-            return Err(Refusal::Entry);
-        }
-        self.rows[k - 1] = row;
+        let i = self.place(k)?;
+        self.rows[i] = row;
         Ok(())
     }
 
@@ -83,16 +78,13 @@ impl<'a, R: Copy> RowList<'a, R> {
     {
         self.used = 0;
     }
+
     // The rows taken.
     pub fn rows(&self) -> &[R]
         ensures { result.now ≡ taken (kept self.now) }
     {
         let rows: &[R] = self.rows;
-        if self.used < rows.len() {
-            &rows[0..self.used]
-        } else {
-            rows
-        }
+        &rows[..self.used.min(rows.len())]
     }
 }
 
@@ -103,25 +95,9 @@ impl<'a> RowList<'a, Move> {
         ensures is { AddSays k chance (kept self.old) (kept self.new) result }
         ensures same { self.new.rows.ghost_name ≡ self.old.rows.ghost_name }
     {
-        match self.get(k) {
-            Ok(row) => {
-                if row.sum > u32::MAX - chance {
-                    return Err(Refusal::Number);
-                }
-                self.raise(k, chance);
-                Ok(row.sum + chance)
-            }
-            Err(why) => Err(why),
-        }
-    }
-
-    // Adds to the sum in row k, from 1.
-    fn raise(&mut self, k: usize, chance: u32)
-        requires there { (1 ≤ k) × (k ≤ length self.old.rows.now) }
-        requires fits { (move_row (kept self.old) k).sum + chance < 2 ^ 32 }
-        ensures is { kept self.new ≡ changed (kept self.old) k (raised (move_row (kept self.old) k) chance) }
-        ensures same { self.new.rows.ghost_name ≡ self.old.rows.ghost_name }
-    {
-        self.rows[k - 1].sum += chance;
+        let i = self.place(k)?;
+        let sum = self.rows[i].sum.checked_add(chance).ok_or(Refusal::Number)?;
+        self.rows[i].sum = sum;
+        Ok(sum)
     }
 }

@@ -1,9 +1,10 @@
-ghost use Rattle.std.specs.Prelude.{◌≡◌, ◌-◌, ◌<◌, MatchResult};
-ghost use Rattle.plans.specs.Items.{Item};
+ghost use Rattle.std.specs.Prelude.{◌≡◌, MatchResult};
 ghost use Rattle.plans.specs.RowChecks.{RowsFine, RowsWrong};
 ghost use Rattle.plans.specs.Tables.{tabled, table_sound};
 
 use super::faults::RowFault;
+use super::item::item;
+use super::lent_rows::Rows;
 use super::plan::Plan;
 use super::row_check::check_rows;
 use super::rows::{Goal, Move, Outcome, Position};
@@ -15,59 +16,26 @@ use bounds::time::TimeDomain;
 pub struct TablePlan<'a, T> {
     time: T,
     clocks: usize,
-    positions: &'a [Position],
-    moves: &'a [Move],
-    outcomes: &'a [Outcome],
-    goals: &'a [Goal],
-    ghost fits: { ∥ RowsFine clocks positions.now moves.now outcomes.now goals.now ∥₁ },
+    rows: Rows<'a>,
+    ghost fits: { ∥ RowsFine clocks rows.positions.now rows.moves.now rows.outcomes.now rows.goals.now ∥₁ },
 }
 
 impl<'a, T: TimeDomain + Copy> TablePlan<'a, T> {
     // The row check, and then the plan that the rows are.
-    pub fn new(
-        time: T,
-        clocks: usize,
-        positions: &'a [Position],
-        moves: &'a [Move],
-        outcomes: &'a [Outcome],
-        goals: &'a [Goal],
-    ) -> Result<TablePlan<'a, T>, RowFault>
-        ensures { MatchResult result (λ t. (t.time ≡ time) × (t.clocks ≡ clocks) × (t.positions.now ≡ positions.now) × (t.moves.now ≡ moves.now) × (t.outcomes.now ≡ outcomes.now) × (t.goals.now ≡ goals.now)) (λ f. RowsWrong clocks positions.now moves.now outcomes.now goals.now f) }
+    pub fn new(time: T, clocks: usize, rows: Rows<'a>) -> Result<TablePlan<'a, T>, RowFault>
+        ensures { MatchResult result (λ t. (t.time ≡ time) × (t.clocks ≡ clocks) × (t.rows.positions.now ≡ rows.entry.positions.now) × (t.rows.moves.now ≡ rows.entry.moves.now) × (t.rows.outcomes.now ≡ rows.entry.outcomes.now) × (t.rows.goals.now ≡ rows.entry.goals.now)) (λ f. RowsWrong clocks rows.entry.positions.now rows.entry.moves.now rows.entry.outcomes.now rows.entry.goals.now f) }
     {
-        match check_rows(clocks, positions, moves, outcomes, goals) {
-            Ok(()) => Ok(TablePlan {
-                time,
-                clocks,
-                positions,
-                moves,
-                outcomes,
-                goals,
-            }),
-            Err(f) => Err(f),
-        }
+        check_rows(clocks, rows)?;
+        Ok(TablePlan { time, clocks, rows })
     }
-}
-
-// Row k, from 1.
-fn item<R: Copy>(rows: &[R], k: usize) -> Result<R, Refusal>
-    ensures { Item rows.now k result }
-{
-    if k == 0 {
-        return Err(Refusal::Entry);
-    }
-    let i = k - 1;
-    if i >= rows.len() {
-        return Err(Refusal::Entry);
-    }
-    Ok(rows[i])
 }
 
 impl<'a, T: TimeDomain + Copy> Plan for TablePlan<'a, T> {
     type Time = T;
 
-    ghost meaning = { λ t. tabled (T.TimeDomain.allows t.time) (T.TimeDomain.normal t.time) t.clocks t.positions.now t.moves.now t.outcomes.now t.goals.now };
+    ghost meaning = { λ t. tabled (T.TimeDomain.allows t.time) (T.TimeDomain.normal t.time) t.clocks t.rows.positions.now t.rows.moves.now t.rows.outcomes.now t.rows.goals.now };
 
-    ghost sound = { λ t. table_sound (T.TimeDomain.allows t.time) (T.TimeDomain.normal t.time) t.clocks t.positions.now t.moves.now t.outcomes.now t.goals.now ∣ (T.TimeDomain).lawful t.time ∣₁ t.fits };
+    ghost sound = { λ t. table_sound (T.TimeDomain.allows t.time) (T.TimeDomain.normal t.time) t.clocks t.rows.positions.now t.rows.moves.now t.rows.outcomes.now t.rows.goals.now ∣ (T.TimeDomain).lawful t.time ∣₁ t.fits };
 
     fn time(&self) -> T {
         self.time
@@ -78,34 +46,34 @@ impl<'a, T: TimeDomain + Copy> Plan for TablePlan<'a, T> {
     }
 
     fn positions(&self) -> usize {
-        self.positions.len()
+        self.rows.positions.len()
     }
 
     fn position(&self, k: usize) -> Result<Position, Refusal> {
-        item(self.positions, k)
+        item(self.rows.positions, k)
     }
 
     fn moves(&self) -> usize {
-        self.moves.len()
+        self.rows.moves.len()
     }
 
     fn move_at(&self, k: usize) -> Result<Move, Refusal> {
-        item(self.moves, k)
+        item(self.rows.moves, k)
     }
 
     fn outcomes(&self) -> usize {
-        self.outcomes.len()
+        self.rows.outcomes.len()
     }
 
     fn outcome(&self, k: usize) -> Result<Outcome, Refusal> {
-        item(self.outcomes, k)
+        item(self.rows.outcomes, k)
     }
 
     fn goals(&self) -> usize {
-        self.goals.len()
+        self.rows.goals.len()
     }
 
     fn goal(&self, k: usize) -> Result<Goal, Refusal> {
-        item(self.goals, k)
+        item(self.rows.goals, k)
     }
 }
