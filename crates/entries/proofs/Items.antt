@@ -1,5 +1,5 @@
 -- The bounds that a line writes
-use Rattle.std.proofs.Common.{◌≡◌, ℕ, zero, suc, ◌+◌, ◌/◌, ◌%◌, ◌<◌, ◌≤◌, Bool, true, false, cond, List, [], ◌∷◌, ◌++◌, length, decimal, sym, refl, ap, ◌∙◌, subst, ⊎_elim, append_assoc, append-nil, add-one, arith, length-append}
+use Rattle.std.proofs.Common.{◌≡◌, ℕ, zero, suc, ◌+◌, ◌/◌, ◌%◌, ◌<◌, ◌≤◌, Bool, true, false, cond, List, [], ◌∷◌, ◌++◌, length, ℤ, decimal, sym, refl, ap, ◌∙◌, subst, ⊎_elim, append_assoc, append-nil, add-one, arith, length-append}
 use Rattle.std.proofs.lemmas.Bool.Decides.{nat_tests}
 use Rattle.std.proofs.lemmas.Bool.{cond-true, cond-false, cases_lt}
 use Rattle.bounds.specs.Bounds.{UpperBound, none, upto}
@@ -53,6 +53,31 @@ module _ (n : ℕ) (Z : ℕ → ℕ → UpperBound) (p : ℕ) (any : Bool) (e : 
 
   pub any_more : any_with any (seen n Z p) ≡ some (items n Z (p + 1))
   any_more = any_on (items n Z p) any p (seen n Z p) e ∙ ap some (sym (items_more n Z p))
+
+-- a bound that is written comes after a comma if there are any before it
+module _ (n : ℕ) (Z : ℕ → ℕ → UpperBound) (p q : ℕ) (same : q ≡ p) (s : List ℕ) (parts : s ≡ cond (some (items n Z p)) (44 ∷ []) []) (closed : Bool) (c : ℤ) (is : upto closed c ≡ seen n Z q) where
+  here : upto closed c ≡ seen n Z p
+  here = is ∙ ap (seen n Z) same
+
+  pub commas_with : commas (items n Z (p + 1)) ≡ commas (items n Z p) ++ (s ++ item q closed c)
+  commas_with =
+      commas_more n Z p (some (items n Z p)) refl
+      ∙ ap (λ (b : UpperBound). commas (items n Z p) ++ placed (some (items n Z p)) p b) (sym here)
+      ∙ (λ k. commas (items n Z p) ++ (sym parts k ++ item (sym same k) closed c))
+
+  pub comma_after : ◌≡◌ {A = List ℕ} (44 ∷ []) (cond (some (items n Z (p + 1))) (44 ∷ []) [])
+  comma_after = ap (λ (t : Bool). cond t (44 ∷ []) []) (ap (any_with (some (items n Z p))) here ∙ any_more n Z p (some (items n Z p)) refl)
+
+-- where none is written, all stays
+module _ (n : ℕ) (Z : ℕ → ℕ → UpperBound) (p q : ℕ) (same : q ≡ p) (is : none ≡ seen n Z q) where
+  none_here : none ≡ seen n Z p
+  none_here = is ∙ ap (seen n Z) same
+
+  pub commas_without : commas (items n Z (p + 1)) ≡ commas (items n Z p)
+  commas_without = commas_more n Z p (some (items n Z p)) refl ∙ ap (λ (b : UpperBound). commas (items n Z p) ++ placed (some (items n Z p)) p b) (sym none_here) ∙ append-nil (commas (items n Z p))
+
+  pub some_without : some (items n Z p) ≡ some (items n Z (p + 1))
+  some_without = ap (any_with (some (items n Z p))) none_here ∙ any_more n Z p (some (items n Z p)) refl
 
 -- what is written up to a place is no longer than the whole
 pub commas_longer : (n : ℕ) (Z : ℕ → ℕ → UpperBound) (p q : ℕ) → p ≤ q → length (commas (items n Z p)) ≤ length (commas (items n Z q))

@@ -8,3 +8,4 @@ pub mod ReadSteps
 pub mod Drafts
 pub mod Same
 pub mod Unique
+pub mod FromFn

@@ -102,13 +102,3 @@ all_append n (e ∷ es) fs a b = (a.0, all_append n es fs a.1 b)
 pub lines_long : (n : ℕ) (es : List Entry) → length es ≤ length (lines n es)
 lines_long n [] = omega arith
 lines_long n (e ∷ es) = omega (arith, lines_long n es, length-append (line n e) (lines n es), length_line n e)
-
--- the line of the first entry
-pub first_line : (n : ℕ) (e : Entry) (es : List Entry) (bs : List ℕ) (end : ℕ) → IsEntry n e → lines n (e ∷ es) ≡ bs → end ≡ up_to 10 bs → (end < length bs) × (take (end + 1) bs ≡ line n e) × (drop (end + 1) bs ≡ lines n es)
-unfolding line
-first_line n e es bs end is h u =
-    let b = sym h ∙ line_on n e (lines n es) in
-    let k = u ∙ ap (up_to 10) b ∙ up_to_mark 10 (body n e) (lines n es) (body_lacks n e is) in
-    let long = ap length b ∙ length-append (body n e) (10 ∷ lines n es) in
-    let m : length (body n e ++ (10 ∷ [])) ≡ end + 1 = omega (arith, k, length-append (body n e) (10 ∷ [])) in
-    (omega (arith, k, long), ap (take (end + 1)) (sym h) ∙ take_at (line n e) (lines n es) (end + 1) m, ap (drop (end + 1)) (sym h) ∙ drop_at (line n e) (lines n es) (end + 1) m)

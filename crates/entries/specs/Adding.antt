@@ -18,7 +18,3 @@ placed any p (upto closed c) = cond any (44 ∷ []) [] ++ item p closed c
 abbrev pub any_with : Bool → UpperBound → Bool
 any_with any none = any
 any_with any (upto closed c) = true
-
-abbrev pub PlacedSays : List ℕ → Bool → ℕ → UpperBound → Result Bool Refusal → List ℕ → Type 0
-PlacedSays before any p b (Ok a) after = (a ≡ any_with any b) × (after ≡ before ++ placed any p b)
-PlacedSays before any p b (Err e) after = (e ≡ refused.Buffer) × (1200 < length before + length (placed any p b))

@@ -26,6 +26,10 @@ signed_of bs = cond (slice_index bs 0 == 45) (below (number_to 4000001 (drop 1 b
 abbrev pub clock : ℕ → Bool
 clock b = nat_le 48 b && nat_le b 56
 
+-- the clock that such a digit names
+abbrev pub clock_of : ℕ → Option ℕ
+clock_of b = cond (clock b) (Some (b - 48)) None
+
 abbrev pub with_number : ℕ → Bool → Option ℤ → Option (ℕ × Bound)
 with_number p closed None = None
 with_number p closed (Some z) = Some (p, record { number = z; closed = closed })

@@ -11,20 +11,21 @@ pub struct ClockCount {
     ghost most: { count ≤ 8 },
 }
 
-impl ClockCount {
+impl TryFrom<usize> for ClockCount {
+    type Error = Refusal;
+
+    ghost try_from_gives = { λ count r. MatchResult r (λ n. n.count ≡ count) (λ e. (e ≡ refused.Number) × ((1 ≤ count × (count ≤ 8)) → ⊥)) };
+
     // Refuses, by Number, what is not 1 to 8.
-    pub fn new(count: usize) -> Result<ClockCount, Refusal>
-        ensures { MatchResult result (λ n. n.count ≡ count) (λ e. (e ≡ refused.Number) × ((1 ≤ count × (count ≤ 8)) → ⊥)) }
-    {
-        if count < 1 {
-            return Err(Refusal::Number);
-        }
-        if count > 8 {
+    fn try_from(count: usize) -> Result<ClockCount, Refusal> {
+        if !(1..=8).contains(&count) {
             return Err(Refusal::Number);
         }
         Ok(ClockCount { count })
     }
+}
 
+impl ClockCount {
     pub fn get(self) -> usize
         ensures { result ≡ self.count }
     {

@@ -3,7 +3,7 @@ ghost use Rattle.bounds.specs.Logic.{Iff};
 ghost use Rattle.entries.specs.Entries.{IsEntry};
 
 use crate::clock_count::ClockCount;
-use crate::places::{free, zone_bounds};
+use crate::places::zone_bounds;
 use zones::zone::Zone;
 
 // What a store keeps: a zone of states at a position, and the round in which it was found.
@@ -20,13 +20,6 @@ impl Entry {
     pub fn is_for(self, clocks: ClockCount) -> bool
         ensures { Iff (result ≡ true) (IsEntry clocks.count self) }
     {
-        if self.position < 1 {
-            return false;
-        }
-        if self.position > 64 {
-            return false;
-        }
-        let bounds = zone_bounds(&self.zone);
-        free(clocks.get(), &bounds)
+        (1..=64).contains(&self.position) && clocks.free_above(&zone_bounds(&self.zone))
     }
 }

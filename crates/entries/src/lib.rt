@@ -3,6 +3,7 @@
 pub mod clock_count;
 pub mod entry;
 mod lines;
+mod place;
 mod places;
 mod reading;
 mod written;

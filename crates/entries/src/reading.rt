@@ -1,7 +1,6 @@
-ghost use Rattle.std.specs.Prelude.{◌≡◌, ℕ, ◌<◌, ◌≤◌, List, length, drop, replicate, None};
+ghost use Rattle.std.specs.Prelude.{◌≡◌, replicate, None};
 ghost use Rattle.byte_text.specs.Parts.{parted, within};
-ghost use Rattle.byte_text.specs.Numerals.{number_to};
-ghost use Rattle.entries.specs.Reading.{above, below, signed_of, clock, before_number, item_of, bounds_from, DraftSays};
+ghost use Rattle.entries.specs.Reading.{signed_of, clock_of, item_of, bounds_from, DraftSays};
 
 use bounds::bound::Bound;
 use byte_text::numerals::number_to;
@@ -15,52 +14,23 @@ pub struct Draft {
     pub bounds: [Option<Bound>; 81],
 }
 
-// A number, of which those above 4,000,001 are read as that.
-fn read_above(bytes: &[u8]) -> Option<i32>
-    ensures { result ≡ above (number_to 4000001 bytes.now) }
-{
-    match number_to(bytes, 4_000_001) {
-        None => None,
-        Some(n) => Some(n as i32),
-    }
-}
-
-// The same, taken from 0.
-fn read_below(bytes: &[u8]) -> Option<i32>
-    ensures { result ≡ below (number_to 4000001 bytes.now) }
-{
-    match number_to(bytes, 4_000_001) {
-        None => None,
-        Some(n) => Some(0 - n as i32),
-    }
-}
-
-// A number with `-` before it or not.
+// A number with `-` before it or not, of which those beyond 4,000,001 on either side are read as that.
 fn read_number(bytes: &[u8]) -> Option<i32>
     ensures { result ≡ signed_of bytes.now }
 {
-    if bytes.len() > 0 && bytes[0] == b'-' {
-        return read_below(&bytes[1..]);
+    match bytes.strip_prefix(b"-") {
+        Some(digits) => number_to(digits, 4_000_001).map(|n| 0 - n as i32),
+        None => number_to(bytes, 4_000_001).map(|n| n as i32),
     }
-    read_above(bytes)
 }
 
-// A clock's digit, 0 to 8.
-fn is_clock(byte: u8) -> bool
-    ensures { result ≡ clock byte }
+// The clock that a digit names, 0 to 8.
+fn read_clock(byte: u8) -> Option<usize>
+    ensures { result ≡ clock_of byte }
 {
-    byte >= b'0' && byte <= b'8'
-}
-
-// The number after `i-j<` or `i-j<=`.
-fn number_after(bytes: &[u8], closed: bool) -> Option<i32>
-    requires { 5 ≤ length bytes.now }
-    ensures { result ≡ signed_of (drop (before_number closed) bytes.now) }
-{
-    if closed {
-        read_number(&bytes[5..])
-    } else {
-        read_number(&bytes[4..])
+    match byte {
+        b'0'..=b'8' => Some((byte - b'0') as usize),
+        _ => None,
     }
 }
 
@@ -68,21 +38,14 @@ fn number_after(bytes: &[u8], closed: bool) -> Option<i32>
 fn read_item(bytes: &[u8]) -> Option<(usize, Bound)>
     ensures { result ≡ item_of bytes.now }
 {
-    if bytes.len() < 5 {
+    let [i, _, j, _, rest @ ..] = bytes else {
         return None;
-    }
-    if !is_clock(bytes[0]) {
-        return None;
-    }
-    if !is_clock(bytes[2]) {
-        return None;
-    }
-    let place = 9 * (bytes[0] - b'0') as usize + (bytes[2] - b'0') as usize;
-    let closed = bytes[4] == b'=';
-    match number_after(bytes, closed) {
-        None => None,
-        Some(number) => Some((place, Bound { number, closed })),
-    }
+    };
+    let place = 9 * read_clock(*i)? + read_clock(*j)?;
+    let after_equals = rest.strip_prefix(b"=");
+    let number = read_number(after_equals.unwrap_or(rest))?;
+    let closed = after_equals.is_some();
+    Some((place, Bound { number, closed }))
 }
 
 // The bounds that the items between commas give, each at its place.
@@ -90,8 +53,7 @@ fn read_bounds(part: Part) -> [Option<Bound>; 81]
     ensures { result ≡ bounds_from (parted 44 (within part.entry.at part.entry.bytes.now) part.entry.bytes.now) (replicate 81 None) }
 {
     let mut bounds = [None; 81];
-    let mut items = Parts::new(part, b',');
-    while let Some(item) = items.next() {
+    for item in Parts::new(part, b',') {
         if let Some((place, bound)) = read_item(item.bytes) {
             bounds[place] = Some(bound);
         }

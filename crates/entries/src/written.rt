@@ -1,90 +1,57 @@
-ghost use Rattle.std.specs.Prelude.{◌≡◌, ℕ, ◌/◌, ◌%◌, ◌<◌, ◌≤◌, List, [], ◌∷◌, ◌++◌, length, if◌then◌else◌};
+ghost use Rattle.std.specs.Prelude.{◌≡◌};
 ghost use Rattle.bounds.specs.Sums.{bound_of};
 ghost use Rattle.zones.specs.Codes.{at};
-ghost use Rattle.byte_text.specs.Lines.{text, AddSays, WriteSays};
-ghost use Rattle.entries.specs.Lines.{seen, equals, item, items, commas, line, LineSays};
-ghost use Rattle.entries.specs.Adding.{AddedSays, PlacedSays};
+ghost use Rattle.byte_text.specs.Lines.{text, WriteSays};
+ghost use Rattle.entries.specs.Lines.{seen, item, items, commas, line, LineSays};
+ghost use Rattle.entries.specs.Adding.{AddedSays};
 
 use crate::clock_count::ClockCount;
 use crate::entry::Entry;
+use crate::place::Place;
 use crate::places::bound_at;
 use bounds::bound::Bound;
 use bounds::refusal::Refusal;
 use byte_text::line::Line;
 use zones::zone::Zone;
 
-// What parts a bound from those before it.
-fn separator(any: bool) -> &'static [u8]
-    ensures { result.now ≡ (if any then 44 ∷ [] else []) }
+// Adds `i-j<c` or `i-j<=c` for the place, which is (i, j).
+fn add_bound(line: &mut Line, place: Place, bound: Bound) -> Result<(), Refusal>
+    ensures { AddedSays (text line.old) (item place.number bound.closed bound.number) result (text line.new) }
 {
-    if any { b"," } else { b"" }
-}
-
-fn equals_sign(closed: bool) -> &'static [u8]
-    ensures { result.now ≡ equals closed }
-{
-    if closed { b"=" } else { b"" }
-}
-
-// Adds `i-j<c` or `i-j<=c` for the place p, which is (i, j), after a comma if there are any before it.
-fn add_bound(line: &mut Line, p: usize, bound: Bound, any: bool) -> Result<(), Refusal>
-    requires { p < 81 }
-    ensures { AddedSays (text line.old) ((if any then 44 ∷ [] else []) ++ item p bound.closed bound.number) result (text line.new) }
-{
-    let i = b'0' + (p / 9) as u8;
-    let j = b'0' + (p % 9) as u8;
-    line.word(separator(any))?;
+    let i = b'0' + place.row() as u8;
+    let j = b'0' + place.column() as u8;
     line.word(&[i, b'-', j, b'<'])?;
-    line.word(equals_sign(bound.closed))?;
+    line.word(if bound.closed { b"=" } else { b"" })?;
     line.signed(bound.number)
 }
 
-// Adds the bounds of the zone among the clocks 0 to `count`, row by row, parted by commas.
-fn add_bounds(line: &mut Line, zone: &Zone, count: usize) -> Result<(), Refusal>
-    ensures { AddedSays (text line.old) (commas (items count (at zone.now.codes) 81)) result (text line.new) }
+// Adds the bounds of the zone among the clocks up to the count, row by row, parted by commas.
+fn add_bounds(line: &mut Line, zone: &Zone, clocks: ClockCount) -> Result<(), Refusal>
+    ensures { AddedSays (text line.old) (commas (items clocks.count (at zone.now.codes) 81)) result (text line.new) }
 {
-    let mut any = false;
+    let mut separator: &[u8] = b"";
+    // By number, since a place is made of it.
     for p in 0..81 {
-        any = add_place(line, zone, count, p, any)?;
+        let place = Place::new(p);
+        if let Some(bound) = seen_bound(zone, clocks, place) {
+            line.word(separator)?;
+            add_bound(line, place, bound)?;
+            separator = b",";
+        }
     }
     Ok(())
 }
 
-// Adds the bound at a place, if it is written, after a comma if there are any before it; answers whether there are any then.
-fn add_place(
-    line: &mut Line,
-    zone: &Zone,
-    count: usize,
-    p: usize,
-    any: bool,
-) -> Result<bool, Refusal>
-    requires { p < 81 }
-    ensures { PlacedSays (text line.old) any p (seen count (at zone.now.codes) p) result (text line.new) }
-{
-    match seen_bound(zone, count, p) {
-        None => Ok(any),
-        Some(bound) => match add_bound(line, p, bound, any) {
-            Ok(()) => Ok(true),
-            Err(why) => Err(why),
-        },
-    }
-}
-
 // The bound at a place, if it is written.
-fn seen_bound(zone: &Zone, count: usize, p: usize) -> Option<Bound>
-    requires { p < 81 }
-    ensures { bound_of result ≡ seen count (at zone.now.codes) p }
+fn seen_bound(zone: &Zone, clocks: ClockCount, place: Place) -> Option<Bound>
+    ensures { bound_of result ≡ seen clocks.count (at zone.now.codes) place.number }
 {
-    if p / 9 > count {
+    let i = place.row();
+    let j = place.column();
+    if i > clocks.get() || j > clocks.get() || i == j {
         return None;
     }
-    if p % 9 > count {
-        return None;
-    }
-    if p / 9 == p % 9 {
-        return None;
-    }
-    bound_at(zone, p)
+    bound_at(zone, place)
 }
 
 impl Entry {
@@ -98,7 +65,7 @@ impl Entry {
         line.word(b"\t")?;
         line.number(self.round)?;
         line.word(b"\t")?;
-        add_bounds(&mut line, &self.zone, clocks.get())?;
+        add_bounds(&mut line, &self.zone, clocks)?;
         line.word(b"\n")?;
         Ok(line)
     }

@@ -1,6 +1,6 @@
 #![tactic(auto)]
 
 pub mod line_store;
-pub mod loan;
+mod loan;
 pub mod row_store;
 pub mod store;

@@ -1,16 +1,15 @@
-ghost use Rattle.std.specs.Prelude.{◌≡◌, ℕ, ◌+◌, ◌<◌, ◌≤◌, ◌++◌, length, take, slice_set};
-ghost use Rattle.byte_text.specs.Lines.{written};
-ghost use Rattle.entries.specs.Entries.{IsEntry};
-ghost use Rattle.entries.specs.Lines.{line};
+ghost use Rattle.std.specs.Prelude.{◌≡◌, ◌≤◌, length, take};
 ghost use Rattle.stores.specs.Held.{Kept};
 
 use entries::clock_count::ClockCount;
 use entries::entry::Entry;
 
 mod keeping;
+mod reading;
 
 // A store that keeps each entry as its line in a lent slice of bytes, a unit a byte.
 // The first `used` bytes are the lines of its `count` entries; those behind them hold what they held.
+// The bytes are lent, and those used are counted beside them, since the libraries have no heap.
 #[derive(Drop)]
 pub struct LineStore<'a> {
     clocks: ClockCount,
@@ -36,48 +35,5 @@ impl<'a> LineStore<'a> {
             used: 0,
             count: 0,
         }
-    }
-
-    // Writes a byte behind the used ones.
-    fn lay(&mut self, k: usize, byte: u8)
-        requires past { self.old.used ≤ k }
-        requires within { k < length self.old.bytes.now }
-        ensures bytes { self.new.bytes.now ≡ slice_set self.old.bytes.now k byte }
-        ensures used { self.new.used ≡ self.old.used }
-        ensures count { self.new.count ≡ self.old.count }
-        ensures clocks { self.new.clocks ≡ self.old.clocks }
-        ensures same { self.new.bytes.ghost_name ≡ self.old.bytes.ghost_name }
-    {
-        self.bytes[k] = byte;
-    }
-
-    // Writes some bytes behind the used ones.
-    fn lay_all(&mut self, text: &[u8])
-        requires { self.old.used + length text.now ≤ length self.old.bytes.now }
-        ensures bytes { self.new.bytes.now ≡ written self.old.bytes.now self.old.used text.now }
-        ensures used { self.new.used ≡ self.old.used }
-        ensures count { self.new.count ≡ self.old.count }
-        ensures clocks { self.new.clocks ≡ self.old.clocks }
-        ensures same { self.new.bytes.ghost_name ≡ self.old.bytes.ghost_name }
-    {
-        let at = self.used;
-        for i in 0..text.len() {
-            self.lay(at + i, text[i]);
-        }
-    }
-
-    // Counts the line of the entry, which stands behind the used bytes, to them.
-    fn commit(&mut self, end: usize, entry: Entry)
-        requires within { end ≤ length self.old.bytes.now }
-        requires text { take end self.old.bytes.now ≡ take self.old.used self.old.bytes.now ++ line self.old.clocks.count entry }
-        requires entry { IsEntry self.old.clocks.count entry }
-        ensures bytes { self.new.bytes.now ≡ self.old.bytes.now }
-        ensures used { self.new.used ≡ end }
-        ensures count { self.new.count ≡ self.old.count + 1 }
-        ensures clocks { self.new.clocks ≡ self.old.clocks }
-        ensures same { self.new.bytes.ghost_name ≡ self.old.bytes.ghost_name }
-    {
-        self.used = end;
-        self.count += 1;
     }
 }

@@ -1,4 +1,4 @@
-ghost use Rattle.std.specs.Prelude.{◌≡◌, ℕ, ◌+◌, [], length};
+ghost use Rattle.std.specs.Prelude.{◌≡◌, length};
 ghost use Rattle.plans.specs.RowLists.{kept, taken};
 ghost use Rattle.stores.specs.Puts.{PutSays};
 ghost use Rattle.stores.specs.Rows.{left, left_bounded, one_some, RowsSay};
@@ -40,10 +40,8 @@ impl<'a> RowStore<'a> {
         if self.list.len() >= 1_000_000_000 {
             return Err(Refusal::Full);
         }
-        match self.list.push(entry) {
-            Ok(_) => Ok(()),
-            Err(_) => Err(Refusal::Full),
-        }
+        self.list.push(entry).map_err(|_| Refusal::Full)?;
+        Ok(())
     }
 }
 

@@ -1,17 +1,11 @@
-ghost use Rattle.std.specs.Prelude.{◌≡◌, ℕ, ◌+◌, length};
-ghost use Rattle.plans.specs.Items.{Item};
+ghost use Rattle.std.specs.Prelude.{◌≡◌, length};
 ghost use Rattle.entries.specs.Lines.{line};
-ghost use Rattle.entries.proofs.Items.{line_some};
 ghost use Rattle.stores.specs.Puts.{PutSays};
-ghost use Rattle.stores.specs.Rows.{left, left_bounded};
-ghost use Rattle.stores.specs.Held.{held};
-ghost use Rattle.stores.specs.Texts.{BytesSay, NthSays, text_of};
+ghost use Rattle.stores.specs.Rows.{left};
+ghost use Rattle.stores.specs.Texts.{BytesSay, text_of};
 
 use crate::line_store::LineStore;
-use crate::store::Store;
 use bounds::refusal::Refusal;
-use byte_text::parts::up_to;
-use entries::clock_count::ClockCount;
 use entries::entry::Entry;
 
 impl<'a> LineStore<'a> {
@@ -30,8 +24,10 @@ impl<'a> LineStore<'a> {
         if self.room() < need {
             return Err(Refusal::Full);
         }
-        self.lay_all(text.as_bytes());
-        self.commit(self.used + need, entry);
+        let end = self.used + need;
+        self.bytes[self.used..end].copy_from_slice(text.as_bytes());
+        self.used = end;
+        self.count += 1;
         Ok(())
     }
 
@@ -43,69 +39,5 @@ impl<'a> LineStore<'a> {
             .len()
             .min(1_000_000_000)
             .saturating_sub(self.used)
-    }
-}
-
-// Line i of the bytes, from 0, with the byte that ends it.
-fn nth_line<'a>(bytes: &'a [u8], i: usize) -> Option<&'a [u8]>
-    ensures { NthSays bytes.now i result }
-{
-    let mut rest = bytes;
-    for _j in 0..i {
-        let end = up_to(rest, b'\n');
-        if end >= rest.len() {
-            return None;
-        }
-        rest = &rest[end + 1..];
-    }
-    let end = up_to(rest, b'\n');
-    if end >= rest.len() {
-        return None;
-    }
-    Some(&rest[0..end + 1])
-}
-
-impl<'a> Store for LineStore<'a> {
-    ghost dimension = { λ s. s.clocks.count };
-
-    ghost counted = { λ s. record { least = s.clocks.least; most = s.clocks.most } };
-
-    ghost entries = { λ s. text_of s };
-
-    ghost room = { λ s. left (length s.bytes.now) s.used };
-
-    ghost bounded = { λ s. left_bounded (length s.bytes.now) s.used };
-
-    ghost need = { λ n e. length (line n e) };
-
-    ghost needs = { line_some };
-
-    fn put(&mut self, entry: Entry) -> Result<(), Refusal> {
-        self.keep(entry)
-    }
-
-    fn clocks(&self) -> ClockCount {
-        self.clocks
-    }
-
-    fn count(&self) -> usize {
-        self.count
-    }
-
-    fn read(&self, k: usize) -> Result<Entry, Refusal> {
-        if k < 1 {
-            return Err(Refusal::Entry);
-        }
-        if k > self.count {
-            return Err(Refusal::Entry);
-        }
-        let bytes: &[u8] = self.bytes;
-        match nth_line(&bytes[0..self.used], k - 1) {
-            None => Err(Refusal::Entry),
-            Some(line) => match Entry::read(self.clocks, line) {
-                Ok(entry) => Ok(entry),
-                Err(_) => Err(Refusal::Entry),
-            },
-        }
     }
 }

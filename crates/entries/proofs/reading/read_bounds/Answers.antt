@@ -15,25 +15,25 @@ offset_bounds-bounds-place c =
 
 pub loop-item-preserved-in-Some-read_item : goal.loop-item-preserved-in-Some-read_item
 loop-item-preserved-in-Some-read_item c =
-    let ps = ahead c.loop-item.items in
+    let ps = ahead c.loop-item.item-iterator in
     let bs = c.loop-item.bounds in (
       simp length-set c.loop-item.invariant.0,
-      ap (λ (l : List Place). bounds_from l (set bs c.in-Some-read_item.place (Some c.in-Some-read_item.bound))) c.next.ensures.rest
+      ap (λ (l : List Place). bounds_from l (set bs c.in-Some-read_item.place (Some c.in-Some-read_item.bound))) c.next.ensures.steps.rest
           ∙ ap (λ (o : Option (ℕ × Bound)). bounds_from (tail_places ps) (noted bs o)) c.in-Some-read_item.ensures
-          ∙ sym (bounds_step ps bs c.next.result c.in-Some.item c.in-Some.is c.next.ensures.first)
+          ∙ sym (bounds_step ps bs c.next.result c.in-Some.item c.in-Some.is c.next.ensures.steps.first)
           ∙ c.loop-item.invariant.1,
     )
 
 pub loop-item-preserved : goal.loop-item-preserved
 loop-item-preserved c =
-    let ps = ahead c.loop-item.items in
+    let ps = ahead c.loop-item.item-iterator in
     let bs = c.loop-item.bounds in (
       c.loop-item.invariant.0,
-      ap (λ (l : List Place). bounds_from l bs) c.next.ensures.rest
-          ∙ ap (λ (o : Option (ℕ × Bound)). bounds_from (tail_places ps) (noted bs o)) c.in_default-read_item.ensures
-          ∙ sym (bounds_step ps bs c.next.result c.in-Some.item c.in-Some.is c.next.ensures.first)
+      ap (λ (l : List Place). bounds_from l bs) c.next.ensures.steps.rest
+          ∙ ap (λ (o : Option (ℕ × Bound)). bounds_from (tail_places ps) (noted bs o)) c.in_default.ensures
+          ∙ sym (bounds_step ps bs c.next.result c.in-Some.item c.in-Some.is c.next.ensures.steps.first)
           ∙ c.loop-item.invariant.1,
     )
 
 pub returns : goal.returns
-returns c = sym (bounds_end (ahead c.loop-item.items) c.loop-item.bounds c.next.result c.in_default.is c.next.ensures.first) ∙ c.loop-item.invariant.1
+returns c = sym (bounds_end (ahead c.loop-item.item-iterator) c.loop-item.bounds c.next.result c.in-None.is c.next.ensures.steps.first) ∙ c.loop-item.invariant.1

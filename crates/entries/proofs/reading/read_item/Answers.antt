@@ -1,27 +1,32 @@
-use Rattle.std.proofs.Common.{◌+◌, ◌-◌, ◌*◌, eqb, get_or, Some, sym, ap, ◌∙◌, to_z-of_z, w32, SFits, rules}
-use Rattle.entries.specs.Reading.{with_number}
-use Rattle.entries.proofs.ReadSteps.{item_short, item_first, item_third, item_whole}
+use Rattle.std.proofs.Common.{◌+◌, ◌*◌, Bor, List, ℕ, Some, ap, ◌∙◌, to_z-of_z, w32, SFits, is_some, rules}
+use Rattle.entries.specs.Reading.{with_number, signed_of}
+use Rattle.entries.proofs.ReadSteps.{rest, item_short, item_first, item_third, item_made}
 use Rattle.entries.proofs.reading.read_item.Goals as goal
 
-pub returns-then-bytes-lt5 : goal.returns-then-bytes-lt5
-returns-then-bytes-lt5 c = item_short c.args.bytes.now c.if-bytes-lt5.true
+pub returns-in_default : goal.returns-in_default
+returns-in_default c = item_short c.args.bytes.now c.in_default.len_below
 
-pub returns-then-not-is_clock : goal.returns-then-not-is_clock
-returns-then-not-is_clock c = item_first c.args.bytes.now (sym c.is_clock.ensures ∙ c.if-not-is_clock.true)
+pub returns-in_err-read_clock : goal.returns-in_err-read_clock
+returns-in_err-read_clock c = c.from_residual.ensures ∙ item_first c.args.bytes.now c.in_err-read_clock.ensures
 
-pub returns-then-not-is_clock-2 : goal.returns-then-not-is_clock-2
-returns-then-not-is_clock-2 c = item_third c.args.bytes.now (sym c.is_clock-2.ensures ∙ c.if-not-is_clock-2.true)
+pub returns-in_err-place : goal.returns-in_err-place
+returns-in_err-place c = c.from_residual-in_err-place.ensures ∙ item_third c.args.bytes.now c.in_err-place.ensures
 
-pub returns-in-None : goal.returns-in-None
-returns-in-None c =
+pub returns-in_err-number : goal.returns-in_err-number
+returns-in_err-number c =
     let bs = c.args.bytes.now in
-    ap (with_number (9 * (get_or bs 0 0 - 48) + (get_or bs 2 0 - 48)) (eqb (get_or bs 4 0) 61)) c.in-None.ensures
-    ∙ item_whole bs c.if-bytes-lt5.false (sym c.is_clock.ensures ∙ c.if-not-is_clock.false) (sym c.is_clock-2.ensures ∙ c.if-not-is_clock-2.false)
+    let r = c.strip_prefix-after_equals.result in
+    let p = 9 * c.in_ok-read_clock.field-0 + c.in_ok-place.field-0 in
+    c.from_residual-in_err-number.ensures
+    ∙ ap (with_number p (is_some r)) (c.in_err-number.ensures ∙ ap (λ (x : Bor (List ℕ)). signed_of x.now) c.unwrap_or.ensures)
+    ∙ item_made bs _ _ r _ c.in-len4-up.len_at_least (rest 4 bs) c.in_ok-read_clock.ensures c.in_ok-place.ensures c.strip_prefix-after_equals.ensures.cases
 
-pub returns-in-Some : goal.returns-in-Some
-returns-in-Some c =
+pub returns : goal.returns
+returns c =
     let bs = c.args.bytes.now in
-    let f : SFits w32 c.in-Some.number = search rules in
-    ap (λ z. with_number (9 * (get_or bs 0 0 - 48) + (get_or bs 2 0 - 48)) (eqb (get_or bs 4 0) 61) (Some z)) (to_z-of_z f)
-    ∙ ap (with_number (9 * (get_or bs 0 0 - 48) + (get_or bs 2 0 - 48)) (eqb (get_or bs 4 0) 61)) c.in-Some.ensures
-    ∙ item_whole bs c.if-bytes-lt5.false (sym c.is_clock.ensures ∙ c.if-not-is_clock.false) (sym c.is_clock-2.ensures ∙ c.if-not-is_clock-2.false)
+    let r = c.strip_prefix-after_equals.result in
+    let p = 9 * c.in_ok-read_clock.field-0 + c.in_ok-place.field-0 in
+    let f : SFits w32 c.in_ok-number.number = search rules in
+    (λ k. with_number p (c.is_some-closed.ensures k) (Some (to_z-of_z f k)))
+    ∙ ap (with_number p (is_some r)) (c.in_ok-number.ensures ∙ ap (λ (x : Bor (List ℕ)). signed_of x.now) c.unwrap_or.ensures)
+    ∙ item_made bs _ _ r _ c.in-len4-up.len_at_least (rest 4 bs) c.in_ok-read_clock.ensures c.in_ok-place.ensures c.strip_prefix-after_equals.ensures.cases

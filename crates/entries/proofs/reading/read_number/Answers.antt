@@ -1,17 +1,15 @@
-use Rattle.std.proofs.Common.{ℕ, List, ap, ◌∙◌}
+use Rattle.std.proofs.Common.{◌≡◌, ap, ◌∙◌, rules}
 use Rattle.byte_text.specs.Numerals.{number_to}
-use Rattle.entries.specs.Reading.{below}
-use Rattle.entries.proofs.ReadSteps.{rest, signed_minus, signed_plain, no_first}
+use Rattle.entries.specs.Reading.{above, below}
+use Rattle.entries.proofs.ReadSteps.{signed_minus, signed_plain}
 use Rattle.entries.proofs.reading.read_number.Goals as goal
-use Rattle.entries.proofs.reading.read_number.Goals.{else-bytes-gt0-via-else-bytes-gt0, else-bytes-gt0-via-then-bytes-gt0+else-bytes-eq45}
 
-pub returns-then-bytes-eq45 : goal.returns-then-bytes-eq45
-returns-then-bytes-eq45 c = c.read_below.ensures ∙ ap (λ (l : List ℕ). below (number_to 4000001 l)) (rest 1 c.args.bytes.now) ∙ signed_minus c.args.bytes.now c.if-bytes-eq45.true
+pub returns-in-Some : goal.returns-in-Some
+returns-in-Some c =
+    let m : c.map.result ≡ below c.number_to.result = search rules in
+    m ∙ ap below (c.number_to.ensures ∙ ap (number_to 4000001) c.in-Some.ensures.cases.1) ∙ signed_minus c.args.bytes.now c.in-Some.ensures.cases.0
 
-pub returns : goal.returns
-returns c =
-    c.read_above.ensures ∙ signed_plain c.args.bytes.now
-    (elim c.else-bytes-gt0.branch [
-      | else-bytes-gt0-via-else-bytes-gt0 w ↦ no_first c.args.bytes.now w.if-bytes-gt0.false
-      | else-bytes-gt0-via-then-bytes-gt0+else-bytes-eq45 w ↦ w.if-bytes-eq45.false
-    ])
+pub returns-in-None : goal.returns-in-None
+returns-in-None c =
+    let m : c.map-in-None.result ≡ above c.number_to-in-None.result = search rules in
+    m ∙ ap above c.number_to-in-None.ensures ∙ signed_plain c.args.bytes.now c.in-None.ensures.cases

@@ -1,55 +1,48 @@
-use Rattle.std.proofs.Common.{◌≡◌, ℕ, ◌+◌, ◌≤◌, List, ◌++◌, length, take, sym, refl, ap, ◌∙◌, subst, arith}
-use Rattle.byte_text.specs.Lines.{written}
-use Rattle.entries.specs.declared.clock_count.ClockCount.{ClockCount}
-use Rattle.entries.specs.Entries.{IsEntry}
+use Rattle.std.proofs.Common.{◌≡◌, ℕ, ◌+◌, ◌-◌, ◌≤◌, List, ◌++◌, length, take, sym, refl, ap, ◌∙◌, subst, arith, length-take, rules}
 use Rattle.entries.specs.Lines.{line}
-use Rattle.stores.proofs.HeldFacts.{held_more, front_kept, front_more, length_kept}
+use Rattle.entries.proofs.Items.{length_line}
+use Rattle.stores.specs.Held.{Kept}
+use Rattle.stores.proofs.HeldFacts.{part_written, kept_more, held_more, count_few, front_kept, front_more, length_kept}
 use Rattle.stores.proofs.line_store.LineStore.keep.Goals as goal
 
-pub commit-requires : goal.commit-requires
-commit-requires c =
+pub overflow_add-self : goal.overflow_add-self
+overflow_add-self c =
     let s = c.args.self.now in
-    let t = c.lay_all.new.self in
+    let n = s.clocks.count in
+    let h : s.count + 1 ≤ 1000000000 = omega (arith, c.room.ensures, c.len-need.ensures.value, ap length c.in_ok-text.ensures, length_line n c.args.entry, count_few n s.count (take s.used s.bytes.now) s.kept, length-take s.used s.bytes.now) in
+    search rules
+
+pub invariant_of-self : goal.invariant_of-self
+invariant_of-self c =
+    let s = c.args.self.now in
     let n = s.clocks.count in
     let l = line n c.args.entry in
-    let is = c.in_ok-text.ensures in
-    let e = c.lay_all.ensures.bytes ∙ ap (written s.bytes.now s.used) (c.as_bytes.ensures ∙ is) in
-    let m : c.len-need.result ≡ length l = c.len-need.ensures.value ∙ ap length is in
+    let m : c.len-need.result ≡ length l = c.len-need.ensures.value ∙ ap length c.in_ok-text.ensures in
+    let k : s.used + c.len-need.result - s.used ≡ length l = omega (arith, m) in
+    let is = part_written s.bytes.now l c.copy_from_slice.new.self s.used (s.used + c.len-need.result - s.used) (c.copy_from_slice.ensures.after ∙ c.as_bytes.ensures ∙ c.in_ok-text.ensures) k in
     let fits : s.used + length l ≤ length s.bytes.now = omega (arith, m, c.room.ensures, s.fits) in
-    let k = ap (λ (x : ClockCount). x.count) c.lay_all.ensures.clocks in
+    let front = front_kept s.bytes.now _ l s.used s.used is refl fits in
+    let more = front_more s.bytes.now _ l s.used s.used is refl fits c.len-need.result m in
     record {
-      within = omega (arith, m, fits, c.lay_all.ensures.used, length_kept s.bytes.now t.bytes.now l s.used t.used e c.lay_all.ensures.used fits);
-      text = front_more s.bytes.now t.bytes.now l s.used t.used e c.lay_all.ensures.used fits c.len-need.result m ∙ ap (λ (x : ℕ). take t.used t.bytes.now ++ line x c.args.entry) (sym k);
-      entry = subst (λ (x : ℕ). IsEntry x c.args.entry) (sym k) (c.is_for.ensures.0 c.if-not-is_for.false);
+      fits = omega (arith, fits, m, length_kept s.bytes.now _ l s.used s.used is refl fits);
+      kept = subst (λ (x : List ℕ). ∥ Kept n (s.count + 1) x ∥₁) (sym (more ∙ ap (λ (x : List ℕ). x ++ l) front)) (kept_more n s.count (take s.used s.bytes.now) c.args.entry s.kept (c.is_for.ensures.0 c.if-not-is_for.false));
     }
 
-pub returns : goal.returns
-returns c =
+pub returns-clause-says : goal.returns-clause-says
+returns-clause-says c =
     let s = c.args.self.now in
-    let t = c.lay_all.new.self in
-    let z = c.commit.new.self in
     let n = s.clocks.count in
     let l = line n c.args.entry in
-    let is = c.in_ok-text.ensures in
-    let e = c.lay_all.ensures.bytes ∙ ap (written s.bytes.now s.used) (c.as_bytes.ensures ∙ is) in
-    let m : c.len-need.result ≡ length l = c.len-need.ensures.value ∙ ap length is in
+    let m : c.len-need.result ≡ length l = c.len-need.ensures.value ∙ ap length c.in_ok-text.ensures in
+    let k : s.used + c.len-need.result - s.used ≡ length l = omega (arith, m) in
+    let is = part_written s.bytes.now l c.copy_from_slice.new.self s.used (s.used + c.len-need.result - s.used) (c.copy_from_slice.ensures.after ∙ c.as_bytes.ensures ∙ c.in_ok-text.ensures) k in
     let fits : s.used + length l ≤ length s.bytes.now = omega (arith, m, c.room.ensures, s.fits) in
-    let all = c.commit.ensures.bytes ∙ e in
-    let used = c.commit.ensures.used ∙ ap (λ (x : ℕ). x + c.len-need.result) c.lay_all.ensures.used ∙ ap (λ (x : ℕ). s.used + x) m in
-    let count = c.commit.ensures.count ∙ ap (λ (x : ℕ). x + 1) c.lay_all.ensures.count in
-    let clocks = c.commit.ensures.clocks ∙ c.lay_all.ensures.clocks in
-    let long = length_kept s.bytes.now z.bytes.now l s.used s.used all refl fits in
-    let more = front_more s.bytes.now z.bytes.now l s.used s.used all refl fits (length l) refl in
-    let front = front_kept s.bytes.now z.bytes.now l s.used s.used all refl fits in
+    let front = front_kept s.bytes.now _ l s.used s.used is refl fits in
+    let more = front_more s.bytes.now _ l s.used s.used is refl fits c.len-need.result m in
     let is_entry = c.is_for.ensures.0 c.if-not-is_for.false in
     record {
-      says = record {
-        is_entry = is_entry;
-        fits = omega (arith, m, c.room.ensures);
-        entries = held_more n z.clocks.count s.count z.count (take s.used s.bytes.now) (take z.used z.bytes.now) c.args.entry s.kept z.kept (ap (λ (x : ClockCount). x.count) clocks) is_entry count (ap (λ (x : ℕ). take x z.bytes.now) used ∙ more ∙ ap (λ (x : List ℕ). x ++ l) front);
-        room = omega (arith, m, c.room.ensures, long, used);
-      };
-      bytes = (all, used, count);
-      clocks = clocks;
-      same = c.commit.ensures.same ∙ c.lay_all.ensures.same;
+      is_entry = is_entry;
+      fits = omega (arith, m, c.room.ensures);
+      entries = held_more n n s.count (s.count + 1) (take s.used s.bytes.now) _ c.args.entry s.kept _ refl is_entry refl (more ∙ ap (λ (x : List ℕ). x ++ l) front);
+      room = omega (arith, m, c.room.ensures, length_kept s.bytes.now _ l s.used s.used is refl fits);
     }
