@@ -1,3 +1,4 @@
+pub mod Firsts
 pub mod Covering
 pub mod Offering
 pub mod Turning

@@ -1,5 +1,5 @@
 -- What a search does is what the state machine does
-use Rattle.std.proofs.Common.{◌≡◌, ℕ, ◌+◌, ◌<◌, cond, eqb, List, length, Ok, Err, Result, sym, refl, ap, ◌∙◌, subst, arith}
+use Rattle.std.proofs.Common.{◌≡◌, ℕ, ◌+◌, ◌<◌, cond, eqb, List, length, Ok, Err, Result, ◌⊎◌, inl, inr, sym, refl, ap, ◌∙◌, subst}
 use Rattle.std.proofs.lemmas.Bool.{cond-true, cond-false, eq-eqb, ne_eqb}
 use Rattle.bounds.specs.declared.refusal.Refusal.{Refusal}
 use Rattle.bounds.specs.declared.refusal.Refusal.TheVariants as refused
@@ -57,7 +57,12 @@ unfolding step
 step_open M need' es m f = refl
 
 open_fit : Open ≡ Unfit → ⊥
-open_fit e = let z : ◌≡◌ {A = ℕ} 0 1 = cc in omega arith
+open_fit e = cc
+
+not_open : (p : Phase) → (p ≡ Closed) ⊎ ((p ≡ Stopped) ⊎ (p ≡ Unfit)) → p ≡ Open → ⊥
+not_open p (inl q) e = absurd (let d : Closed ≡ Open = sym q ∙ e in cc)
+not_open p (inr (inl q)) e = absurd (let d : Stopped ≡ Open = sym q ∙ e in cc)
+not_open p (inr (inr q)) e = absurd (let d : Unfit ≡ Open = sym q ∙ e in cc)
 
 module _ (M : PlanMeaning) (n : ℕ) (need : Entry → ℕ) (es : List Entry) (m f : ℕ) where
   pub widen_open : (r : Result ℕ Refusal) (ph ph' : Phase) (fs : List Entry) (k g : ℕ) → ph ≡ Open → AdvanceSays M n need es m f r ph' fs k g → WidenSays M n need ph es m f r ph' fs k g
@@ -75,14 +80,5 @@ module _ (M : PlanMeaning) (n : ℕ) (need : Entry → ℕ) (es : List Entry) (m
   idle Stopped d need' = record { reply = refl; next = refl }
   idle Unfit d need' = record { reply = refl; next = refl }
 
-  pub widen_idle : (ph : Phase) → (ph ≡ Open → ⊥) → WidenSays M n need ph es m f (Err refused.Phase) ph es m f
-  widen_idle ph d fit small need' a = (idle ph d need', fit)
-
-pub closed_open : Closed ≡ Open → ⊥
-closed_open e = let z : ◌≡◌ {A = ℕ} 0 1 = cc in omega arith
-
-pub stopped_open : Stopped ≡ Open → ⊥
-stopped_open e = let z : ◌≡◌ {A = ℕ} 0 1 = cc in omega arith
-
-pub unfit_open : Unfit ≡ Open → ⊥
-unfit_open e = let z : ◌≡◌ {A = ℕ} 0 1 = cc in omega arith
+  pub widen_idle : (ph : Phase) → (ph ≡ Closed) ⊎ ((ph ≡ Stopped) ⊎ (ph ≡ Unfit)) → WidenSays M n need ph es m f (Err refused.Phase) ph es m f
+  widen_idle ph q fit small need' a = (idle ph (not_open ph q) need', fit)

@@ -26,6 +26,7 @@ use Rattle.starts.specs.Starts.{GoalOf, StepOf, GoalTells, StepTells}
 use Rattle.starts.proofs.Starting.{item_is}
 use Rattle.distances.specs.Rows.{row, rows}
 use Rattle.distances.proofs.Covering.{many_rows, row_read}
+use Rattle.distances.proofs.Offering.{offer_refused}
 use Rattle.distances.specs.Turns.{Ends, Ready, Agrees, StartFits, Turned, OfferSays, TriesSays, RoundSays, GoalSays, CrossSays, AcrossSays, AfterSays}
 
 start_fits : (M : PlanMeaning) (S : ℕ → (ℕ → ℕ) → Type 0) (f p : ℕ) → Names (length M.positions) p → (o : Remains) → Exact M S o → StartFits M f p o
@@ -38,9 +39,13 @@ module _ (M : PlanMeaning) (formed : WellFormed M) (n : ℕ) (need : Entry → �
   pub nothing : (f : ℕ) (u : Unit {0}) → TriesSays M n need f [] es m (Ok u) es m
   nothing f u need' a r = record { ends = tries_none need' f (rows es) m; ready = r }
 
+  -- a start that is refused
+  pub none_offered : (f p : ℕ) (e : Refusal) → OfferSays M f p (Err e) n need es m (Err e) es m
+  none_offered f p e need' a r o t fits = offer_refused M formed n need f p es m need' a r e o t
+
   -- ---- goals
   pub goal_said : (j : ℕ) (g : Goal) → Item M.goals (j + 1) (Ok g) → (left : Result (Option Zone) Refusal) (r : Result (Unit {0}) Refusal) (fs : List Entry) (k : ℕ) → GoalTells M g left
-      → OfferSays M n need 0 g.position left es m r fs k → GoalSays M n need j es m r fs k
+      → OfferSays M 0 g.position left n need es m r fs k → GoalSays M n need j es m r fs k
   goal_said j g i left r fs k t o h need' a ready =
       let q : j + 1 - 1 ≡ j = omega arith in
       let e : g ≡ goal_at M j = item_is M.goals (j + 1) g no_goal i ∙ ap (λ x. get_or M.goals x no_goal) q in
@@ -70,11 +75,8 @@ module _ (M : PlanMeaning) (formed : WellFormed M) (n : ℕ) (need : Entry → �
     pub elsewhere : (o.target ≡ e.position → ⊥) → (u : Unit {0}) → CrossSays M n need f e j es m (Ok u) es m
     elsewhere c = not_crossed (and_right (leb 1 o.chance) (eqb o.target e.position) (ne_eqb o.target e.position c))
 
-    pub no_move_there : (w : Refusal) (r : Result (Unit {0}) Refusal) → Item M.moves o.cause (Err w) → CrossSays M n need f e j es m r es m
-    no_move_there w r x h of need' a ready = let c = (outcome_of h).cause in absurd (let l = x.1 c.0 in omega (arith, c.1))
-
     pub crossed : (1 ≤ o.chance) → o.target ≡ e.position → (mv : Move) → Item M.moves o.cause (Ok mv) → (left : Result (Option Zone) Refusal) (r : Result (Unit {0}) Refusal) (fs : List Entry) (k : ℕ)
-        → StepTells M mv o e.zone.codes left → OfferSays M n need f mv.source left es m r fs k → CrossSays M n need f e j es m r fs k
+        → StepTells M mv o e.zone.codes left → OfferSays M f mv.source left n need es m r fs k → CrossSays M n need f e j es m r fs k
     unfolding across
     crossed likely to mv x left r fs k t s h of need' a ready =
         let q : mv ≡ move_of M o = item_is M.moves o.cause mv no_move x in
@@ -206,10 +208,10 @@ module _ (M : PlanMeaning) (need : ℕ → Entry → ℕ) (n₀ : ℕ) (es₀ : 
     loop = λ of. loop_on M need n₀ es₀ f (λ need'. tries need' f (outcomes_left M (row e) 0) (rows es₀) m₀) (outcomes_left M (row e) i) (across M (row e) (outcome_at M i)) (outcomes_left M (row e) (i + 1)) (outcomes_more M (row e) i h) n es m (l.loop of) n' q u fs k (s h of);
   }
 
-  pub across_off : i < length M.outcomes → (w : Refusal) (fs : List Entry) (k : ℕ) → CrossSays M n (need n) f e i es m (Err w) fs k → AcrossSays M n₀ (need n₀) f e es₀ m₀ (Err w) fs k
+  pub across_off : i < length M.outcomes → (w : Refusal) (fs : List Entry) (k : ℕ) → CrossSays M n (need n) f e i es m (Err w) fs k → AcrossSays M f e n₀ (need n₀) es₀ m₀ (Err w) fs k
   across_off h w fs k s of = loop_off M need n₀ es₀ f (λ need'. tries need' f (outcomes_left M (row e) 0) (rows es₀) m₀) (outcomes_left M (row e) i) (across M (row e) (outcome_at M i)) (outcomes_left M (row e) (i + 1)) (outcomes_more M (row e) i h) n es m (l.loop of) w fs k (s h of)
 
-  pub across_end : length M.outcomes ≤ i → (u : Unit {0}) → AcrossSays M n₀ (need n₀) f e es₀ m₀ (Ok u) es m
+  pub across_end : length M.outcomes ≤ i → (u : Unit {0}) → AcrossSays M f e n₀ (need n₀) es₀ m₀ (Ok u) es m
   across_end h u of = loop_end M need n₀ es₀ f (λ need'. tries need' f (outcomes_left M (row e) 0) (rows es₀) m₀) (outcomes_left M (row e) i) (outcomes_all M (row e) i h) n es m (l.loop of) u
 
 -- ---- one entry
@@ -222,7 +224,7 @@ module _ (M : PlanMeaning) (n : ℕ) (need : Entry → ℕ) (es : List Entry) (m
     ready = r;
   }
 
-  pub this_round : e.round ≡ g → (r : Result (Unit {0}) Refusal) (fs : List Entry) (k : ℕ) → AcrossSays M n need f e es m r fs k → AfterSays M n need f g j es m r fs k
+  pub this_round : e.round ≡ g → (r : Result (Unit {0}) Refusal) (fs : List Entry) (k : ℕ) → AcrossSays M f e n need es m r fs k → AfterSays M n need f g j es m r fs k
   unfolding after
   this_round q r fs k s h need' a ready =
       subst (λ x. Turned M n (tries need' f (after M g x) (rows es) m) r fs k) (sym (row_read es j e h i))
@@ -258,6 +260,10 @@ module _ (M : PlanMeaning) (need : ℕ → Entry → ℕ) (n₀ : ℕ) (es₀ : 
 
     cut : tries need' f (entries_left M g es₀ i) (rows es) m ≡ onward (tries need' f (after M g (entry_at (rows es₀) i)) (rows es) m) (tries need' f (entries_left M g es₀ (i + 1)))
     cut = ap (λ ds. tries need' f ds (rows es) m) (entries_more h) ∙ tries_append need' f (after M g (entry_at (rows es₀) i)) (entries_left M g es₀ (i + 1)) (rows es) m
+
+  -- the entry is there to be read
+  pub next_there : i < length es₀ → (e : Refusal) → Item es (i + 1) (Err e) → RoundSays M n₀ (need n₀) f es₀ m₀ (Err e) es m
+  next_there h e x need' a r0 = absurd (let o = (old h need' a r0).0 in let y = x.1 (omega arith) in omega arith)
 
   pub next_on : i < length es₀ → (n' : ℕ) → n' ≡ n → (u : Unit {0}) (fs : List Entry) (k : ℕ) → AfterSays M n (need n) f g i es m (Ok u) fs k → NextLoop M need n₀ es₀ m₀ f g (i + 1) n' fs k
   next_on h n' q u fs k s = record {

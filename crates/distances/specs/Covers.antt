@@ -1,22 +1,15 @@
 -- Whether a held zone has another within it.
-use Rattle.std.specs.Prelude.{◌≡◌, ℕ, ◌<◌, Bool, ◌&&◌, List, length, ◌==◌}
+use Rattle.std.specs.Prelude.{◌≡◌, ℕ, Bool, List}
 use Rattle.bounds.specs.Bounds.{UpperBound}
 use Rattle.zones.specs.declared.codes.Code.{Code}
 use Rattle.entries.specs.declared.entry.Entry.{Entry}
 use Rattle.rounds.specs.Codes.{within_zone}
 use Rattle.rounds.specs.Calls.{ZoneOf}
-use Rattle.rounds.specs.Rounds.{Entry as Row, entry_at, covering}
+use Rattle.rounds.specs.Rounds.{covering}
 use Rattle.distances.specs.Rows.{rows, Zones}
 
 abbrev pub WithinTells : (UpperBound → UpperBound) → List Code → List Code → Bool → Type 0
 WithinTells normal xs ys r = ZoneOf normal xs → ZoneOf normal ys → r ≡ within_zone xs ys
-
--- the zone xs at position p lies within that of the row
-abbrev pub covers : ℕ → List Code → Row → Bool
-covers p xs e = e.position == p && within_zone xs e.zone
-
-abbrev pub EntryCovers : (UpperBound → UpperBound) → List Entry → ℕ → List Code → ℕ → Bool → Type 0
-EntryCovers normal es p xs k r = k < length es → Zones normal es → ZoneOf normal xs → r ≡ covers p xs (entry_at (rows es) k)
 
 abbrev pub CoverTells : (UpperBound → UpperBound) → List Entry → ℕ → List Code → Bool → Type 0
 CoverTells normal es p xs r = Zones normal es → ZoneOf normal xs → r ≡ covering (rows es) p xs

@@ -1,4 +1,5 @@
 pub mod Rows
+pub mod Firsts
 pub mod Covers
 pub mod Turns
 pub mod Finds

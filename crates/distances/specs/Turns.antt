@@ -1,11 +1,15 @@
 -- A round over a store, part by part.
-use Rattle.std.specs.Prelude.{◌≡◌, ℕ, ◌<◌, List, [], ◌∷◌, length, Ok, Err, Option, Result}
+use Rattle.std.specs.Prelude.{◌≡◌, ℕ, ◌+◌, ◌<◌, List, [], ◌∷◌, length, Ok, Err, Option, Result}
 use Rattle.bounds.specs.declared.refusal.Refusal.{Refusal}
 use Rattle.bounds.specs.declared.refusal.Refusal.TheVariants as refused
 use Rattle.bounds.specs.Domains.{Lawful}
 use Rattle.zones.specs.declared.zone.Zone.{Zone}
 use Rattle.std.specs.List.{flat_map}
+use Rattle.plans.specs.declared.rows.Outcome.{Outcome}
+use Rattle.plans.specs.declared.rows.Goal.{Goal}
+use Rattle.plans.specs.Items.{Item}
 use Rattle.plans.specs.Meaning.{PlanMeaning, goal_at, outcome_at}
+use Rattle.stores.specs.declared.store.Store.{Ghosts}
 use Rattle.entries.specs.declared.entry.Entry.{Entry}
 use Rattle.rounds.specs.Codes.{Remains}
 use Rattle.rounds.specs.Codes.Remains.{kept, empty, beyond}
@@ -53,8 +57,8 @@ pub record Turned (M : PlanMeaning) (n : ℕ) (t : Turn) (r : Result (Unit {0}) 
   pub ready : Ready M n fs
 
 -- one start
-abbrev pub OfferSays : PlanMeaning → ℕ → (Entry → ℕ) → ℕ → ℕ → Result (Option Zone) Refusal → List Entry → ℕ → Result (Unit {0}) Refusal → List Entry → ℕ → Type 0
-OfferSays M n need f p left es m r fs k = (need' : Row → ℕ) → Agrees need' need → Ready M n es → (o : Remains) → Tells o left → (Lawful M.allows M.normal → StartFits M f p o) → Turned M n (tried need' f p o (rows es) m) r fs k
+abbrev pub OfferSays : PlanMeaning → ℕ → ℕ → Result (Option Zone) Refusal → ℕ → (Entry → ℕ) → List Entry → ℕ → Result (Unit {0}) Refusal → List Entry → ℕ → Type 0
+OfferSays M f p left n need es m r fs k = (need' : Row → ℕ) → Agrees need' need → Ready M n es → (o : Remains) → Tells o left → (Lawful M.allows M.normal → StartFits M f p o) → Turned M n (tried need' f p o (rows es) m) r fs k
 
 -- starts in order
 abbrev pub TriesSays : PlanMeaning → ℕ → (Entry → ℕ) → ℕ → List Start → List Entry → ℕ → Result (Unit {0}) Refusal → List Entry → ℕ → Type 0
@@ -73,9 +77,24 @@ abbrev pub CrossSays : PlanMeaning → ℕ → (Entry → ℕ) → ℕ → Entry
 CrossSays M n need f e j es m r fs k = j < length M.outcomes → EntryOf M (row e) → TriesSays M n need f (across M (row e) (outcome_at M j)) es m r fs k
 
 -- every outcome
-abbrev pub AcrossSays : PlanMeaning → ℕ → (Entry → ℕ) → ℕ → Entry → List Entry → ℕ → Result (Unit {0}) Refusal → List Entry → ℕ → Type 0
-AcrossSays M n need f e es m r fs k = EntryOf M (row e) → TriesSays M n need f (flat_map (across M (row e)) M.outcomes) es m r fs k
+abbrev pub AcrossSays : PlanMeaning → ℕ → Entry → ℕ → (Entry → ℕ) → List Entry → ℕ → Result (Unit {0}) Refusal → List Entry → ℕ → Type 0
+AcrossSays M f e n need es m r fs k = EntryOf M (row e) → TriesSays M n need f (flat_map (across M (row e)) M.outcomes) es m r fs k
 
 -- entry j, from 0, if it is of round g
 abbrev pub AfterSays : PlanMeaning → ℕ → (Entry → ℕ) → ℕ → ℕ → ℕ → List Entry → ℕ → Result (Unit {0}) Refusal → List Entry → ℕ → Type 0
 AfterSays M n need f g j es m r fs k = j < length es → TriesSays M n need f (after M g (entry_at (rows es) j)) es m r fs k
+
+-- the same of a goal, an outcome and an entry that were asked for
+abbrev pub FromGoal : PlanMeaning → Goal → ℕ → (Entry → ℕ) → List Entry → ℕ → Result (Unit {0}) Refusal → List Entry → ℕ → Type 0
+FromGoal M g n need es m r fs k = (j : ℕ) → Item M.goals (j + 1) (Ok g) → GoalSays M n need j es m r fs k
+
+abbrev pub FromOutcome : PlanMeaning → ℕ → Entry → Outcome → ℕ → (Entry → ℕ) → List Entry → ℕ → Result (Unit {0}) Refusal → List Entry → ℕ → Type 0
+FromOutcome M f e o n need es m r fs k = (j : ℕ) → Item M.outcomes (j + 1) (Ok o) → CrossSays M n need f e j es m r fs k
+
+abbrev pub FromLast : PlanMeaning → ℕ → ℕ → Entry → ℕ → (Entry → ℕ) → List Entry → ℕ → Result (Unit {0}) Refusal → List Entry → ℕ → Type 0
+FromLast M f g e n need es m r fs k = (j : ℕ) → Item es (j + 1) (Ok e) → AfterSays M n need f g j es m r fs k
+
+-- a call over a store: what it says of the entries and the room before and after it, and that the store stays for as many clocks
+pub record Over {S : Type 0} (T : Ghosts S) (claim : ℕ → (Entry → ℕ) → List Entry → ℕ → Result (Unit {0}) Refusal → List Entry → ℕ → Type 0) (s : S) (r : Result (Unit {0}) Refusal) (s' : S) : Type 0 where
+  pub says : claim (T.dimension s) (T.need (T.dimension s)) (T.entries s) (T.room s) r (T.entries s') (T.room s')
+  pub clocks : T.dimension s' ≡ T.dimension s

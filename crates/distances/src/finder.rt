@@ -16,13 +16,11 @@ mod reading;
 fn first_phase<P: Plan, S: Store>(plan: &P, store: &S) -> Phase
     ensures { NewSays (P.Plan.meaning plan.now) (S.Store.dimension store.now) (S.Store.entries store.now) (S.Store.room store.now) result 0 }
 {
-    if store.clocks().get() != plan.clocks() {
-        return Phase::Unfit;
+    if store.clocks().get() == plan.clocks() && store.count() == 0 {
+        Phase::Open
+    } else {
+        Phase::Unfit
     }
-    if store.count() != 0 {
-        return Phase::Unfit;
-    }
-    Phase::Open
 }
 
 // A Search for distances: one plan, one store, its phase and the rounds that are finished.
@@ -38,20 +36,10 @@ pub struct Search<P: Plan, S: Store> {
 fn is_askable<P: Plan>(plan: &P, position: usize, state: &State) -> bool
     ensures { AskableTells (P.Plan.meaning plan.now) state.now.scale position state.now.readings.now result }
 {
-    if position < 1 {
-        return false;
-    }
-    if position > plan.positions() {
-        return false;
-    }
-    if state.readings.len() != plan.clocks() {
-        return false;
-    }
-    let time = plan.time();
-    match state.check(&time) {
-        Err(_) => false,
-        Ok(_) => true,
-    }
+    1 <= position
+        && position <= plan.positions()
+        && state.readings.len() == plan.clocks()
+        && state.check(&plan.time()).is_ok()
 }
 
 impl<P: Plan, S: Store> Search<P, S> {
@@ -78,20 +66,16 @@ impl<P: Plan, S: Store> Search<P, S> {
         ensures clocks { S.Store.dimension self.new.store ≡ S.Store.dimension self.old.store }
     {
         let before = self.store.count();
-        match do_round(&self.plan, &mut self.store, self.rounds) {
-            Err(why) => {
-                self.phase = Phase::Stopped;
-                Err(why)
-            }
-            Ok(_) => {
-                self.rounds = self.rounds.saturating_add(1);
-                if self.store.count() == before {
-                    self.phase = Phase::Closed;
-                    return Ok(self.rounds);
-                }
-                Ok(self.rounds)
-            }
+        // A round that is refused leaves it so.
+        self.phase = Phase::Stopped;
+        do_round(&self.plan, &mut self.store, self.rounds)?;
+        self.rounds = self.rounds.saturating_add(1);
+        if self.store.count() == before {
+            self.phase = Phase::Closed;
+        } else {
+            self.phase = Phase::Open;
         }
+        Ok(self.rounds)
     }
 
     // Widens by a round, and answers how many are finished; refused by Phase once closed or stopped, and if unfit.
@@ -103,9 +87,7 @@ impl<P: Plan, S: Store> Search<P, S> {
     {
         match self.phase {
             Phase::Open => self.advance(),
-            Phase::Closed => Err(Refusal::Phase),
-            Phase::Stopped => Err(Refusal::Phase),
-            Phase::Unfit => Err(Refusal::Phase),
+            Phase::Closed | Phase::Stopped | Phase::Unfit => Err(Refusal::Phase),
         }
     }
 
@@ -116,15 +98,12 @@ impl<P: Plan, S: Store> Search<P, S> {
         if !is_askable(&self.plan, position, state) {
             return Err(Refusal::State);
         }
-        let time = self.plan.time();
-        match find(&self.store, &time, position, state) {
-            Some(round) => Ok(Answer::Distance(round)),
-            None => match self.phase {
-                Phase::Closed => Ok(Answer::NoRoute),
-                Phase::Open => Ok(Answer::Untold(self.rounds)),
-                Phase::Stopped => Ok(Answer::Untold(self.rounds)),
-                Phase::Unfit => Ok(Answer::Untold(self.rounds)),
-            },
+        if let Some(round) = find(&self.store, &self.plan.time(), position, state) {
+            return Ok(Answer::Distance(round));
+        }
+        match self.phase {
+            Phase::Closed => Ok(Answer::NoRoute),
+            Phase::Open | Phase::Stopped | Phase::Unfit => Ok(Answer::Untold(self.rounds)),
         }
     }
 
@@ -134,10 +113,8 @@ impl<P: Plan, S: Store> Search<P, S> {
         ensures means { AskMeans (P.Plan.meaning self.now.plan) (S.Store.dimension self.now.store) self.now.phase (S.Store.entries self.now.store) (S.Store.room self.now.store) self.now.rounds state.now.scale position state.now.readings.now result }
     {
         match self.phase {
-            Phase::Open => self.tell(position, state),
-            Phase::Closed => self.tell(position, state),
-            Phase::Stopped => self.tell(position, state),
             Phase::Unfit => Err(Refusal::Phase),
+            Phase::Open | Phase::Closed | Phase::Stopped => self.tell(position, state),
         }
     }
 }

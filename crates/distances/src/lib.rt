@@ -3,4 +3,5 @@
 mod cover;
 mod find;
 pub mod finder;
+mod first;
 pub mod turns;

@@ -1,171 +1,112 @@
-ghost use Rattle.std.specs.Prelude.{◌≡◌, ◌+◌};
-ghost use Rattle.distances.specs.Turns.{OfferSays, GoalSays, CrossSays, AcrossSays, AfterSays, RoundSays};
+ghost use Rattle.std.specs.Prelude.{◌≡◌, ◌-◌, ◌^◌, ◌<◌, Ok};
+ghost use Rattle.distances.specs.Turns.{Over, OfferSays, FromGoal, FromOutcome, AcrossSays, FromLast, RoundSays};
 
 use crate::cover::is_covered;
 use bounds::refusal::Refusal;
 use entries::entry::Entry;
 use plans::plan::Plan;
+use plans::rows::{Goal, Outcome};
 use starts::starts::{goal_zone, step_zone};
 use stores::store::Store;
 use zones::zone::Zone;
 
-// What is left of one start is dropped, where no state is or a held zone has it within it, or put.
-fn offer<P: Plan, S: Store>(
-    plan: &P,
-    store: &mut S,
-    round: u64,
-    position: usize,
-    left: Result<Option<Zone>, Refusal>,
-) -> Result<(), Refusal>
-    ensures says { OfferSays (P.Plan.meaning plan.now) (S.Store.dimension store.old) (S.Store.need (S.Store.dimension store.old)) round position left (S.Store.entries store.old) (S.Store.room store.old) result (S.Store.entries store.new) (S.Store.room store.new) }
-    ensures clocks { S.Store.dimension store.new ≡ S.Store.dimension store.old }
-{
-    match left {
-        Err(why) => Err(why),
-        Ok(some) => match some {
-            None => Ok(()),
-            Some(zone) => {
-                let time = plan.time();
-                if is_covered(store, &time, position, &zone) {
-                    return Ok(());
-                }
-                store.put(Entry {
-                    position,
-                    round,
-                    zone,
-                })
-            }
-        },
-    }
+// A round of a plan, by its number. The store goes beside it: within, each call would also have to say that plan and number stay.
+#[derive(Drop)]
+struct Round<'a, P: Plan> {
+    plan: &'a P,
+    number: u64,
+    ghost fits: { number < 2 ^ 64 },
 }
 
-// What goal k, from 0, starts.
-fn from_goal<P: Plan, S: Store>(plan: &P, store: &mut S, k: usize) -> Result<(), Refusal>
-    ensures says { GoalSays (P.Plan.meaning plan.now) (S.Store.dimension store.old) (S.Store.need (S.Store.dimension store.old)) k (S.Store.entries store.old) (S.Store.room store.old) result (S.Store.entries store.new) (S.Store.room store.new) }
-    ensures clocks { S.Store.dimension store.new ≡ S.Store.dimension store.old }
-{
-    if k >= plan.goals() {
-        return Ok(());
-    }
-    match plan.goal(k + 1) {
-        Err(why) => Err(why),
-        Ok(goal) => {
-            let left = goal_zone(plan, &goal);
-            offer(plan, store, 0, goal.position, left)
+impl<P: Plan> Round<'_, P> {
+    // What is left of one start is dropped, where no state is or a held zone has it within it, or put.
+    fn offer<S: Store>(
+        &self,
+        store: &mut S,
+        position: usize,
+        left: Option<Zone>,
+    ) -> Result<(), Refusal>
+        ensures { Over S.Store (OfferSays (P.Plan.meaning self.now.plan.now) self.now.number position (Ok left)) store.old result store.new }
+    {
+        let Some(zone) = left else {
+            return Ok(());
+        };
+        if is_covered(store, &self.plan.time(), position, &zone) {
+            return Ok(());
         }
+        store.put(Entry {
+            position,
+            round: self.number,
+            zone,
+        })
     }
-}
 
-// Round 0: each goal in order.
-fn first_round<P: Plan, S: Store>(plan: &P, store: &mut S) -> Result<(), Refusal>
-    ensures says { RoundSays (P.Plan.meaning plan.now) (S.Store.dimension store.old) (S.Store.need (S.Store.dimension store.old)) 0 (S.Store.entries store.old) (S.Store.room store.old) result (S.Store.entries store.new) (S.Store.room store.new) }
-    ensures clocks { S.Store.dimension store.new ≡ S.Store.dimension store.old }
-{
-    for k in 0..plan.goals() {
-        match from_goal(plan, store, k) {
-            Ok(_) => {}
-            Err(why) => return Err(why),
-        }
+    // What the goal starts.
+    fn from_goal<S: Store>(&self, store: &mut S, goal: &Goal) -> Result<(), Refusal>
+        requires { self.now.number ≡ 0 }
+        ensures { Over S.Store (FromGoal (P.Plan.meaning self.now.plan.now) goal.now) store.old result store.new }
+    {
+        let left = goal_zone(self.plan, goal)?;
+        self.offer(store, goal.position, left)
     }
-    Ok(())
-}
 
-// What the entry starts by outcome k, from 0.
-fn cross<P: Plan, S: Store>(
-    plan: &P,
-    store: &mut S,
-    round: u64,
-    held: &Entry,
-    k: usize,
-) -> Result<(), Refusal>
-    ensures says { CrossSays (P.Plan.meaning plan.now) (S.Store.dimension store.old) (S.Store.need (S.Store.dimension store.old)) round held.now k (S.Store.entries store.old) (S.Store.room store.old) result (S.Store.entries store.new) (S.Store.room store.new) }
-    ensures clocks { S.Store.dimension store.new ≡ S.Store.dimension store.old }
-{
-    if k >= plan.outcomes() {
-        return Ok(());
-    }
-    match plan.outcome(k + 1) {
-        Err(why) => Err(why),
-        Ok(outcome) => {
-            if outcome.chance < 1 {
-                return Ok(());
-            }
-            if outcome.target != held.position {
-                return Ok(());
-            }
-            match plan.move_at(outcome.cause) {
-                Err(why) => Err(why),
-                Ok(cause) => {
-                    let left = step_zone(plan, &cause, &outcome, held.zone);
-                    offer(plan, store, round, cause.source, left)
-                }
-            }
+    // Round 0: each goal in order.
+    fn first<S: Store>(&self, store: &mut S) -> Result<(), Refusal>
+        requires { self.now.number ≡ 0 }
+        ensures { Over S.Store (λ n need. RoundSays (P.Plan.meaning self.now.plan.now) n need 0) store.old result store.new }
+    {
+        for k in 0..self.plan.goals() {
+            let goal = self.plan.goal(k + 1)?;
+            self.from_goal(store, &goal)?;
         }
+        Ok(())
     }
-}
 
-// What the entry starts by every outcome, in order.
-fn from_entry<P: Plan, S: Store>(
-    plan: &P,
-    store: &mut S,
-    round: u64,
-    held: &Entry,
-) -> Result<(), Refusal>
-    ensures says { AcrossSays (P.Plan.meaning plan.now) (S.Store.dimension store.old) (S.Store.need (S.Store.dimension store.old)) round held.now (S.Store.entries store.old) (S.Store.room store.old) result (S.Store.entries store.new) (S.Store.room store.new) }
-    ensures clocks { S.Store.dimension store.new ≡ S.Store.dimension store.old }
-{
-    for k in 0..plan.outcomes() {
-        match cross(plan, store, round, held, k) {
-            Ok(_) => {}
-            Err(why) => return Err(why),
+    // What the entry starts by the outcome.
+    fn cross<S: Store>(&self, store: &mut S, held: &Entry, outcome: &Outcome) -> Result<(), Refusal>
+        ensures { Over S.Store (FromOutcome (P.Plan.meaning self.now.plan.now) self.now.number held.now outcome.now) store.old result store.new }
+    {
+        if outcome.chance < 1 || outcome.target != held.position {
+            return Ok(());
         }
+        let cause = self.plan.move_at(outcome.cause)?;
+        let left = step_zone(self.plan, &cause, outcome, held.zone)?;
+        self.offer(store, cause.source, left)
     }
-    Ok(())
-}
 
-// What entry k, from 0, starts, if it is of the last round.
-fn from_last<P: Plan, S: Store>(
-    plan: &P,
-    store: &mut S,
-    round: u64,
-    last: u64,
-    k: usize,
-) -> Result<(), Refusal>
-    ensures says { AfterSays (P.Plan.meaning plan.now) (S.Store.dimension store.old) (S.Store.need (S.Store.dimension store.old)) round last k (S.Store.entries store.old) (S.Store.room store.old) result (S.Store.entries store.new) (S.Store.room store.new) }
-    ensures clocks { S.Store.dimension store.new ≡ S.Store.dimension store.old }
-{
-    if k >= store.count() {
-        return Ok(());
-    }
-    match store.read(k + 1) {
-        Err(why) => Err(why),
-        Ok(entry) => {
-            if entry.round != last {
-                return Ok(());
-            }
-            from_entry(plan, store, round, &entry)
+    // What the entry starts by every outcome, in order.
+    fn from_entry<S: Store>(&self, store: &mut S, held: &Entry) -> Result<(), Refusal>
+        ensures { Over S.Store (AcrossSays (P.Plan.meaning self.now.plan.now) self.now.number held.now) store.old result store.new }
+    {
+        for k in 0..self.plan.outcomes() {
+            let outcome = self.plan.outcome(k + 1)?;
+            self.cross(store, held, &outcome)?;
         }
+        Ok(())
     }
-}
 
-// A later round: each entry of the last one, in order.
-fn next_round<P: Plan, S: Store>(
-    plan: &P,
-    store: &mut S,
-    round: u64,
-    last: u64,
-) -> Result<(), Refusal>
-    requires { last + 1 ≡ round }
-    ensures says { RoundSays (P.Plan.meaning plan.now) (S.Store.dimension store.old) (S.Store.need (S.Store.dimension store.old)) round (S.Store.entries store.old) (S.Store.room store.old) result (S.Store.entries store.new) (S.Store.room store.new) }
-    ensures clocks { S.Store.dimension store.new ≡ S.Store.dimension store.old }
-{
-    for k in 0..store.count() {
-        match from_last(plan, store, round, last, k) {
-            Ok(_) => {}
-            Err(why) => return Err(why),
+    // What the entry starts, if it is of the round before.
+    fn from_last<S: Store>(&self, store: &mut S, held: &Entry) -> Result<(), Refusal>
+        requires { 0 < self.now.number }
+        ensures { Over S.Store (FromLast (P.Plan.meaning self.now.plan.now) self.now.number (self.now.number - 1) held.now) store.old result store.new }
+    {
+        if held.round != self.number - 1 {
+            return Ok(());
         }
+        self.from_entry(store, held)
     }
-    Ok(())
+
+    // A later round: each entry of the one before, in order.
+    fn next<S: Store>(&self, store: &mut S) -> Result<(), Refusal>
+        requires { 0 < self.now.number }
+        ensures { Over S.Store (λ n need. RoundSays (P.Plan.meaning self.now.plan.now) n need self.now.number) store.old result store.new }
+    {
+        for k in 0..store.count() {
+            let entry = store.read(k + 1)?;
+            self.from_last(store, &entry)?;
+        }
+        Ok(())
+    }
 }
 
 // A round of the plan over the store.
@@ -173,8 +114,12 @@ pub fn do_round<P: Plan, S: Store>(plan: &P, store: &mut S, round: u64) -> Resul
     ensures says { RoundSays (P.Plan.meaning plan.now) (S.Store.dimension store.old) (S.Store.need (S.Store.dimension store.old)) round (S.Store.entries store.old) (S.Store.room store.old) result (S.Store.entries store.new) (S.Store.room store.new) }
     ensures clocks { S.Store.dimension store.new ≡ S.Store.dimension store.old }
 {
+    let now = Round {
+        plan,
+        number: round,
+    };
     if round == 0 {
-        return first_round(plan, store);
+        return now.first(store);
     }
-    next_round(plan, store, round, round - 1)
+    now.next(store)
 }

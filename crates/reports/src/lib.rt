@@ -8,7 +8,7 @@ use bounds::refusal::Refusal;
 use byte_text::line::Line;
 use rounds::replies::Phase;
 
-// The word for a phase.
+// The word for a phase, as bytes: a line refuses by Buffer, which an error of `fmt` would lose.
 fn phase_name(phase: Phase) -> &'static [u8]
     ensures is { result.now ≡ phase_word phase }
     ensures short { length result.now ≤ 20 }
@@ -39,8 +39,5 @@ fn status_report(phase: Phase, rounds: u64) -> Result<Line, Refusal>
 pub fn write_status(phase: Phase, rounds: u64, buffer: &mut [u8]) -> Result<usize, Refusal>
     ensures { WriteSays (status_line phase rounds) buffer.old result buffer.new }
 {
-    match status_report(phase, rounds) {
-        Ok(text) => text.write(buffer),
-        Err(why) => Err(why),
-    }
+    status_report(phase, rounds)?.write(buffer)
 }

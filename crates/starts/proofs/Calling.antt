@@ -1,9 +1,10 @@
 -- What the calls of a zone answer is what remains of its codes
-use Rattle.std.proofs.Common.{◌≡◌, ℕ, Bool, List, length, Ok, Err, Result, sym, refl, ap, subst, arith}
+use Rattle.std.proofs.Common.{◌≡◌, ℕ, Bool, List, length, Ok, Err, Result, sym, refl, ap, subst}
 use Rattle.bounds.specs.declared.refusal.Refusal.{Refusal}
 use Rattle.bounds.specs.declared.refusal.Refusal.TheVariants as refused
 use Rattle.bounds.specs.Bounds.{UpperBound}
 use Rattle.bounds.specs.Domains.{Lawful, scales}
+use Rattle.zones.specs.declared.zone.Zone.{Zone}
 use Rattle.zones.specs.declared.zone.Cut.{Cut}
 use Rattle.zones.specs.declared.zone.Cut.TheVariants as cut
 use Rattle.zones.specs.declared.codes.Code.{Code}
@@ -18,15 +19,15 @@ use Rattle.rounds.specs.Codes.Remains.{kept, empty, beyond}
 use Rattle.rounds.specs.Answers.{answered, left, ZoneCodes, Valid}
 use Rattle.rounds.specs.Calls.{ZoneOf, Is, Undoes}
 use Rattle.rounds.specs.Rounds.{resets_of}
-use Rattle.starts.specs.Told.{Lists, RemainsOf}
+use Rattle.starts.specs.Told.{zone_left, RemainsOf, CutTells, UndoTells, Lists}
 use Rattle.rounds.proofs.Calling.{whole_codes, whole_domain, whole_only}
 use Rattle.rounds.proofs.Given.{zone_calls_given}
 
 ok_apart : {A B : Type 0} (a : A) (b : B) → ◌≡◌ {A = Result A B} (Ok a) (Err b) → ⊥
-ok_apart a b e = let z : ◌≡◌ {A = ℕ} 0 1 = cc in omega arith
+ok_apart a b e = cc
 
 cut_apart : ◌≡◌ {A = Result Cut Refusal} (Ok cut.Kept) (Ok cut.Empty) → ⊥
-cut_apart e = let z : ◌≡◌ {A = ℕ} 0 1 = cc in omega arith
+cut_apart e = cc
 
 pub is_kept : (o : Remains) (xs ys : List Code) → Is o xs ys (Ok cut.Kept) → o ≡ kept ys
 is_kept (kept zs) xs ys i = ap kept i.1
@@ -50,10 +51,10 @@ pub zone_codes : (ys : List Code) → length ys ≡ 81 → ∥ Sound ys ∥₁ �
 zone_codes ys n s = record { many = n; sound = sound ys s }
 
 module _ (allows : ℕ → Bool) (normal : UpperBound → UpperBound) (K : Lawful allows normal) (sides : List Side) (xs : List Code) where
-  pub cut_kept : (ys : List Code) → length ys ≡ 81 → ∥ Sound ys ∥₁ → BoxSays (scales allows) normal sides xs ys (Ok cut.Kept) → Plain sides → ZoneOf normal xs → cut_box normal sides xs ≡ kept ys
+  cut_kept : (ys : List Code) → length ys ≡ 81 → ∥ Sound ys ∥₁ → BoxSays (scales allows) normal sides xs ys (Ok cut.Kept) → Plain sides → ZoneOf normal xs → cut_box normal sides xs ≡ kept ys
   cut_kept ys n s b p z = is_kept _ xs ys ((zone_calls_given allows normal K).box_only sides xs ys (Ok cut.Kept) p z (zone_codes ys n s) b)
 
-  pub cut_none : (ys : List Code) → BoxSays (scales allows) normal sides xs ys (Ok cut.Empty) → Plain sides → ZoneOf normal xs → cut_box normal sides xs ≡ empty
+  cut_none : (ys : List Code) → BoxSays (scales allows) normal sides xs ys (Ok cut.Empty) → Plain sides → ZoneOf normal xs → cut_box normal sides xs ≡ empty
   cut_none ys b p z = is_empty _ xs ys ((zone_calls_given allows normal K).box_only sides xs ys (Ok cut.Empty) p z (subst ZoneCodes (sym b.unchanged) z.codes) b)
 
   cut_refused : (ys : List Code) (e : Refusal) → BoxSays (scales allows) normal sides xs ys (Err e) → Plain sides → ZoneOf normal xs → ys ≡ xs
@@ -74,42 +75,29 @@ module _ (allows : ℕ → Bool) (normal : UpperBound → UpperBound) (K : Lawfu
   pub cut_beyond : (ys : List Code) (e : Refusal) → BoxSays (scales allows) normal sides xs ys (Err e) → Plain sides → ZoneOf normal xs → (cut_box normal sides xs ≡ beyond) × (e ≡ refused.Range)
   cut_beyond ys e b p z = is_beyond _ xs ys e ((zone_calls_given allows normal K).box_only sides xs ys (Err e) p z (subst ZoneCodes (sym (cut_refused ys e b p z)) z.codes) b)
 
+  pub cut_tells : (y : Zone) (l : Cut) → length y.codes ≡ 81 → BoxSays (scales allows) normal sides xs y.codes (Ok l) → CutTells normal sides xs (Ok (zone_left y l))
+  cut_tells y cut.Kept n b p z = cut_kept y.codes n y.ok b p z
+  cut_tells y cut.Empty n b p z = cut_none y.codes b p z
+
 -- ---- back
 module _ (allows : ℕ → Bool) (normal : UpperBound → UpperBound) (K : Lawful allows normal) (xs : List Code) where
   pub back_kept : (ys : List Code) (u : Unit {0}) → length ys ≡ 81 → ∥ Sound ys ∥₁ → BackSays (scales allows) normal xs ys (Ok u) → ZoneOf normal xs → back_zone xs ≡ kept ys
   back_kept ys u n s b z = (zone_calls_given allows normal K).back_only xs ys u z (zone_codes ys n s) b
-
-  pub back_refused : (ys : List Code) (e : Refusal) (A : Type 0) → BackSays (scales allows) normal xs ys (Err e) → ZoneOf normal xs → A
-  back_refused ys e A b z = absurd (b.1 z.of_domain)
 
 -- ---- undo
 module _ (allows : ℕ → Bool) (normal : UpperBound → UpperBound) (K : Lawful allows normal) (rs : List Bool) (cs : List ℕ) (l : Lists rs cs) (xs : List Code) where
   given : (ys : List Code) → ZoneCodes ys → (a : Result Cut Refusal) → UndoSays (scales allows) normal cs xs ys a → ZoneOf normal xs → Is (undo_zone (resets_of rs) xs) xs ys a
   given ys y a b z = (zone_calls_given allows normal K).undo_only cs (resets_of rs) xs ys a l.known refl l.same z y b
 
-  pub undo_kept : (ys : List Code) → length ys ≡ 81 → ∥ Sound ys ∥₁ → UndoSays (scales allows) normal cs xs ys (Ok cut.Kept) → ZoneOf normal xs → undo_zone (resets_of rs) xs ≡ kept ys
+  undo_kept : (ys : List Code) → length ys ≡ 81 → ∥ Sound ys ∥₁ → UndoSays (scales allows) normal cs xs ys (Ok cut.Kept) → ZoneOf normal xs → undo_zone (resets_of rs) xs ≡ kept ys
   undo_kept ys n s b z = is_kept _ xs ys (given ys (zone_codes ys n s) (Ok cut.Kept) b z)
 
-  pub undo_none : (ys : List Code) → UndoSays (scales allows) normal cs xs ys (Ok cut.Empty) → ZoneOf normal xs → undo_zone (resets_of rs) xs ≡ empty
+  undo_none : (ys : List Code) → UndoSays (scales allows) normal cs xs ys (Ok cut.Empty) → ZoneOf normal xs → undo_zone (resets_of rs) xs ≡ empty
   undo_none ys b z = is_empty _ xs ys (given ys (subst ZoneCodes (sym b.unchanged) z.codes) (Ok cut.Empty) b z)
 
-  undo_unchanged : (ys : List Code) (e : Refusal) → UndoSays (scales allows) normal cs xs ys (Err e) → ys ≡ xs
-  undo_unchanged ys refused.Line b = absurd b
-  undo_unchanged ys refused.Order b = absurd b
-  undo_unchanged ys refused.Number b = b.2
-  undo_unchanged ys refused.Name b = b.1
-  undo_unchanged ys refused.Chance b = absurd b
-  undo_unchanged ys refused.Rows b = absurd b
-  undo_unchanged ys refused.Clocks b = absurd b
-  undo_unchanged ys refused.State b = absurd b
-  undo_unchanged ys refused.Full b = absurd b
-  undo_unchanged ys refused.Range b = absurd b
-  undo_unchanged ys refused.Phase b = absurd b
-  undo_unchanged ys refused.Entry b = absurd b
-  undo_unchanged ys refused.Buffer b = absurd b
-
-  pub undo_beyond : (ys : List Code) (e : Refusal) → UndoSays (scales allows) normal cs xs ys (Err e) → ZoneOf normal xs → (undo_zone (resets_of rs) xs ≡ beyond) × (e ≡ refused.Range)
-  undo_beyond ys e b z = is_beyond _ xs ys e (given ys (subst ZoneCodes (sym (undo_unchanged ys e b)) z.codes) (Err e) b z)
+  pub undo_tells : (y : Zone) (l : Cut) → length y.codes ≡ 81 → UndoSays (scales allows) normal cs xs y.codes (Ok l) → UndoTells normal rs xs (Ok (zone_left y l))
+  undo_tells y cut.Kept n b z = undo_kept y.codes n y.ok b z
+  undo_tells y cut.Empty n b z = undo_none y.codes b z
 
 -- ---- what remains is of the time domain
 module _ (allows : ℕ → Bool) (normal : UpperBound → UpperBound) (K : Lawful allows normal) where

@@ -1,5 +1,5 @@
 -- The zones that a round starts from are the plan's
-use Rattle.std.proofs.Common.{◌≡◌, ℕ, zero, suc, ◌-◌, ◌<◌, List, [], ◌∷◌, length, get_or, Ok, Err, Option, Result, sym, refl, ap, ◌∙◌, subst, arith}
+use Rattle.std.proofs.Common.{◌≡◌, ℕ, zero, suc, ◌-◌, ◌<◌, List, [], ◌∷◌, length, get_or, Ok, Option, Result, sym, refl, ap, ◌∙◌, subst, arith}
 use Rattle.bounds.specs.declared.refusal.Refusal.{Refusal}
 use Rattle.bounds.specs.Bounds.{UpperBound}
 use Rattle.zones.specs.declared.codes.Code.{Code}
@@ -67,12 +67,3 @@ module _ (M : PlanMeaning) (formed : WellFormed M) where
       subst (λ x. Tells x r) (sym (step_is z o))
       (w2 (box_fair M.clocks (move_of M o).guard (formed.moves (o.cause - 1) (omega (arith, s.outcome.cause.0, s.outcome.cause.1))).1).plain
       (plain_at (move_of M o).source (subst (λ (x : Move). Names (length M.positions) x.source) s.cause n)) of)
-
-  pub no_invariant : (p : ℕ) (e : Refusal) → InvariantTells M p (Err e) → Names (length M.positions) p → ⊥
-  no_invariant p e i n = apart (invariant_of M p) (i n)
-    where
-      apart : (b : ClockBox) → ◌≡◌ {A = Result ClockBox Refusal} (Err e) (Ok b) → ⊥
-      apart b q = let z : ◌≡◌ {A = ℕ} 0 1 = cc in omega arith
-
-  pub step_refused : (m : Move) (o : Outcome) (z : List Code) (e : Refusal) → InvariantTells M m.source (Err e) → StepTells M m o z (Err e)
-  step_refused m o z e i s of = absurd (no_invariant m.source e i (source_of m o s))

@@ -8,6 +8,7 @@ use Rattle.zones.specs.declared.boxes.ClockBox.{ClockBox}
 use Rattle.zones.specs.declared.zone.Zone.{Zone}
 use Rattle.zones.specs.Boxes.{Plain}
 use Rattle.rounds.specs.Codes.{Remains, then, whole, cut_box, back_zone, undo_zone}
+use Rattle.rounds.specs.Codes.Remains.{kept}
 use Rattle.rounds.specs.Calls.{ZoneOf}
 use Rattle.plans.specs.declared.rows.Move.{Move}
 use Rattle.plans.specs.declared.rows.Outcome.{Outcome}
@@ -21,6 +22,13 @@ use Rattle.starts.specs.Told.{Tells}
 -- taken back and cut by an invariant
 abbrev pub home_way : (UpperBound → UpperBound) → List Side → Remains → Remains
 home_way normal invariant o = then (then o back_zone) (cut_box normal invariant)
+
+-- cut by two boxes before that
+abbrev pub home_by : (UpperBound → UpperBound) → List Side → List Side → List Side → Remains → Remains
+home_by normal first second invariant o = home_way normal invariant (then (then o (cut_box normal first)) (cut_box normal second))
+
+abbrev pub HomeByTells : (UpperBound → UpperBound) → List Side → List Side → List Side → List Code → Result (Option Zone) Refusal → Type 0
+HomeByTells normal first second invariant xs r = Plain first → Plain second → Plain invariant → ZoneOf normal xs → Tells (home_by normal first second invariant (kept xs)) r
 
 abbrev pub goal_way : (UpperBound → UpperBound) → List Side → List Side → Remains
 goal_way normal invariant area = home_way normal invariant (then (cut_box normal invariant whole) (cut_box normal area))

@@ -5,6 +5,8 @@ use Rattle.bounds.specs.declared.refusal.Refusal.TheVariants as refused
 use Rattle.bounds.specs.Bounds.{UpperBound}
 use Rattle.zones.specs.declared.codes.Code.{Code}
 use Rattle.zones.specs.declared.boxes.Side.{Side}
+use Rattle.zones.specs.declared.zone.Cut.{Cut}
+use Rattle.zones.specs.declared.zone.Cut.TheVariants as cut
 use Rattle.zones.specs.declared.zone.Zone.{Zone}
 use Rattle.zones.specs.Boxes.{Plain}
 use Rattle.zones.specs.Calls.{Known}
@@ -30,18 +32,25 @@ RemainsOf normal (kept xs) = ZoneOf normal xs
 RemainsOf normal empty = Unit {0}
 RemainsOf normal beyond = Unit {0}
 
--- a cut by a box of a zone, and of what remained
+-- the zone, if the call kept some of its states
+abbrev pub zone_left : Zone → Cut → Option Zone
+zone_left z cut.Kept = Some z
+zone_left z cut.Empty = None
+
+-- a zone alone, which is never empty
+abbrev pub TellsZone : Remains → Result Zone Refusal → Type 0
+TellsZone o (Ok z) = o ≡ kept z.codes
+TellsZone o (Err e) = (o ≡ beyond) × (e ≡ refused.Range)
+
+-- calls on a zone of the time domain
 abbrev pub CutTells : (UpperBound → UpperBound) → List Side → List Code → Result (Option Zone) Refusal → Type 0
 CutTells normal sides xs r = Plain sides → ZoneOf normal xs → Tells (cut_box normal sides xs) r
 
-abbrev pub CutOnTells : (UpperBound → UpperBound) → List Side → Result (Option Zone) Refusal → Result (Option Zone) Refusal → Type 0
-CutOnTells normal sides left r = (o : Remains) → Tells o left → RemainsOf normal o → Plain sides → Tells (then o (cut_box normal sides)) r
+abbrev pub BackTells : (UpperBound → UpperBound) → List Code → Result Zone Refusal → Type 0
+BackTells normal xs r = ZoneOf normal xs → TellsZone (back_zone xs) r
 
-abbrev pub BackTells : (UpperBound → UpperBound) → List Code → Result (Option Zone) Refusal → Type 0
-BackTells normal xs r = ZoneOf normal xs → Tells (back_zone xs) r
-
-abbrev pub BackOnTells : (UpperBound → UpperBound) → Result (Option Zone) Refusal → Result (Option Zone) Refusal → Type 0
-BackOnTells normal left r = (o : Remains) → Tells o left → RemainsOf normal o → Tells (then o back_zone) r
+abbrev pub HomeTells : (UpperBound → UpperBound) → List Side → List Code → Result (Option Zone) Refusal → Type 0
+HomeTells normal sides xs r = Plain sides → ZoneOf normal xs → Tells (then (back_zone xs) (cut_box normal sides)) r
 
 abbrev pub UndoTells : (UpperBound → UpperBound) → List Bool → List Code → Result (Option Zone) Refusal → Type 0
 UndoTells normal rs xs r = ZoneOf normal xs → Tells (undo_zone (resets_of rs) xs) r

@@ -12,21 +12,16 @@ use zones::zone::Zone;
 fn invariant_at<P: Plan>(plan: &P, position: usize) -> Result<ClockBox, Refusal>
     ensures { InvariantTells (P.Plan.meaning plan.now) position result }
 {
-    match plan.position(position) {
-        Err(why) => Err(why),
-        Ok(row) => Ok(row.invariant),
-    }
+    Ok(plan.position(position)?.invariant)
 }
 
 // The states that reach the goal by a wait.
 pub fn goal_zone<P: Plan>(plan: &P, goal: &Goal) -> Result<Option<Zone>, Refusal>
     ensures { GoalTells (P.Plan.meaning plan.now) goal.now result }
 {
+    let invariant = invariant_at(plan, goal.position)?;
     let time = plan.time();
-    match invariant_at(plan, goal.position) {
-        Err(why) => Err(why),
-        Ok(invariant) => into_area(&time, &invariant, &goal.area),
-    }
+    into_area(&time, &invariant, &goal.area)
 }
 
 // The states that reach the zone by a wait and the outcome of the move.
@@ -38,9 +33,7 @@ pub fn step_zone<P: Plan>(
 ) -> Result<Option<Zone>, Refusal>
     ensures { StepTells (P.Plan.meaning plan.now) cause.now outcome.now zone.codes result }
 {
+    let invariant = invariant_at(plan, cause.source)?;
     let time = plan.time();
-    match invariant_at(plan, cause.source) {
-        Err(why) => Err(why),
-        Ok(invariant) => into_zone(zone, &time, &outcome.resets, &cause.guard, &invariant),
-    }
+    into_zone(zone, &time, &outcome.resets, &cause.guard, &invariant)
 }

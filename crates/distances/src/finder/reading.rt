@@ -11,10 +11,7 @@ use stores::store::Store;
 fn list_entry<S: Store>(store: &S, k: usize, buffer: &mut [u8]) -> Result<usize, Refusal>
     ensures { Listed (S.Store.dimension store.now) (S.Store.entries store.now) k buffer.old result buffer.new }
 {
-    match store.read(k) {
-        Err(why) => Err(why),
-        Ok(entry) => entry.write(store.clocks(), buffer),
-    }
+    store.read(k)?.write(store.clocks(), buffer)
 }
 
 impl<P: Plan, S: Store> Search<P, S> {
@@ -38,10 +35,8 @@ impl<P: Plan, S: Store> Search<P, S> {
         ensures { ListSays (S.Store.dimension self.now.store) self.now.phase (S.Store.entries self.now.store) k buffer.old result buffer.new }
     {
         match self.phase {
-            Phase::Open => list_entry(&self.store, k, buffer),
-            Phase::Closed => list_entry(&self.store, k, buffer),
-            Phase::Stopped => list_entry(&self.store, k, buffer),
             Phase::Unfit => Err(Refusal::Phase),
+            Phase::Open | Phase::Closed | Phase::Stopped => list_entry(&self.store, k, buffer),
         }
     }
 }

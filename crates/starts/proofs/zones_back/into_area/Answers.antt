@@ -1,7 +1,9 @@
-use Rattle.std.proofs.Common.{sym, ap}
-use Rattle.rounds.specs.Codes.{then, whole, cut_box, back_zone}
+use Rattle.std.proofs.Common.{sym, subst}
 use Rattle.rounds.specs.Codes.Remains.{kept}
-use Rattle.starts.proofs.Calling.{all_of, cut_of, back_of}
+use Rattle.rounds.specs.Calls.{ZoneOf}
+use Rattle.starts.specs.Told.{Tells}
+use Rattle.starts.specs.Starts.{home_by}
+use Rattle.starts.proofs.Calling.{all_of}
 use Rattle.starts.proofs.zones_back.into_area.Goals as goal
 
 pub returns : goal.returns
@@ -9,12 +11,5 @@ returns g c pi pa =
     let k = c.args.time.now in
     let t = g.T.TimeDomain in
     let inv = c.args.invariant.now.sides in
-    let area = c.args.area.now.sides in
-    let cut = cut_of (t.allows k) (t.normal k) (t.lawful k) in
-    let o = cut_box (t.normal k) inv whole in
-    let p = then o (cut_box (t.normal k) area) in
-    let whole_is = all_of (t.allows k) (t.normal k) (t.lawful k) in
-    let z1 = cut inv pi (kept whole) whole_is in
-    let z2 = cut area pa o z1 in
-    let z3 = back_of (t.allows k) (t.normal k) (t.lawful k) p z2 in
-    c.cut_on.ensures (then p back_zone) (c.back_on-earlier.ensures p (c.cut_on-there.ensures o (c.cut_on-here.ensures (kept whole) (ap kept (sym c.all.ensures)) whole_is pi) z1 pa) z2) z3 pi
+    subst (λ xs. Tells (home_by (t.normal k) inv c.args.area.now.sides inv (kept xs)) c.home_by.result) c.all.ensures
+    (c.home_by.ensures pi pa pi (subst (ZoneOf (t.normal k)) (sym c.all.ensures) (all_of (t.allows k) (t.normal k) (t.lawful k))))

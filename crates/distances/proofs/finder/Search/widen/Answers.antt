@@ -1,5 +1,5 @@
-use Rattle.std.proofs.Common.{Err, sym, refl, ◌∙◌}
-use Rattle.distances.proofs.Searched.{widen_open, widen_idle, closed_open, stopped_open, unfit_open}
+use Rattle.std.proofs.Common.{Err, refl}
+use Rattle.distances.proofs.Searched.{widen_open, widen_idle}
 use Rattle.distances.proofs.Means.{widen_means}
 use Rattle.bounds.specs.declared.refusal.Refusal.TheVariants as refused
 use Rattle.distances.proofs.finder.Search.widen.Goals as goal
@@ -10,9 +10,11 @@ returns-in-Open g c =
     let t = s.store in
     let n = g.S.Store.dimension t in
     let v = c.advance.new.self in
+    let M = g.P.Plan.meaning s.plan in
+    let says = widen_open M n (g.S.Store.need n) (g.S.Store.entries t) (g.S.Store.room t) s.rounds c.advance.result s.phase v.phase (g.S.Store.entries v.store) (g.S.Store.room v.store) v.rounds c.in-Open.is c.advance.ensures.says in
     record {
-      says = widen_open (g.P.Plan.meaning s.plan) n (g.S.Store.need n) (g.S.Store.entries t) (g.S.Store.room t) s.rounds c.advance.result s.phase v.phase (g.S.Store.entries v.store) (g.S.Store.room v.store) v.rounds c.in-Open.is c.advance.ensures.says;
-      means = widen_means (g.P.Plan.meaning s.plan) (g.P.Plan.sound s.plan) n (g.S.Store.need n) s.phase (g.S.Store.entries t) (g.S.Store.room t) s.rounds c.advance.result v.phase (g.S.Store.entries v.store) (g.S.Store.room v.store) v.rounds (widen_open (g.P.Plan.meaning s.plan) n (g.S.Store.need n) (g.S.Store.entries t) (g.S.Store.room t) s.rounds c.advance.result s.phase v.phase (g.S.Store.entries v.store) (g.S.Store.room v.store) v.rounds c.in-Open.is c.advance.ensures.says);
+      says = says;
+      means = widen_means M (g.P.Plan.sound s.plan) n (g.S.Store.need n) s.phase (g.S.Store.entries t) (g.S.Store.room t) s.rounds c.advance.result v.phase (g.S.Store.entries v.store) (g.S.Store.room v.store) v.rounds says;
       plan = c.advance.ensures.plan;
       clocks = c.advance.ensures.clocks;
     }
@@ -20,17 +22,13 @@ returns-in-Open g c =
 pub returns-in-Closed : goal.returns-in-Closed
 returns-in-Closed g c =
     let s = c.args.self.now in
-    let n = g.S.Store.dimension s.store in
-    record { says = widen_idle (g.P.Plan.meaning s.plan) n (g.S.Store.need n) (g.S.Store.entries s.store) (g.S.Store.room s.store) s.rounds s.phase (λ e. closed_open (sym c.in-Closed.is ∙ e)); means = widen_means (g.P.Plan.meaning s.plan) (g.P.Plan.sound s.plan) n (g.S.Store.need n) s.phase (g.S.Store.entries s.store) (g.S.Store.room s.store) s.rounds (Err refused.Phase) s.phase (g.S.Store.entries s.store) (g.S.Store.room s.store) s.rounds (widen_idle (g.P.Plan.meaning s.plan) n (g.S.Store.need n) (g.S.Store.entries s.store) (g.S.Store.room s.store) s.rounds s.phase (λ e. closed_open (sym c.in-Closed.is ∙ e))); plan = refl; clocks = refl }
-
-pub returns-in-Stopped : goal.returns-in-Stopped
-returns-in-Stopped g c =
-    let s = c.args.self.now in
-    let n = g.S.Store.dimension s.store in
-    record { says = widen_idle (g.P.Plan.meaning s.plan) n (g.S.Store.need n) (g.S.Store.entries s.store) (g.S.Store.room s.store) s.rounds s.phase (λ e. stopped_open (sym c.in-Stopped.is ∙ e)); means = widen_means (g.P.Plan.meaning s.plan) (g.P.Plan.sound s.plan) n (g.S.Store.need n) s.phase (g.S.Store.entries s.store) (g.S.Store.room s.store) s.rounds (Err refused.Phase) s.phase (g.S.Store.entries s.store) (g.S.Store.room s.store) s.rounds (widen_idle (g.P.Plan.meaning s.plan) n (g.S.Store.need n) (g.S.Store.entries s.store) (g.S.Store.room s.store) s.rounds s.phase (λ e. stopped_open (sym c.in-Stopped.is ∙ e))); plan = refl; clocks = refl }
-
-pub returns-in-Unfit : goal.returns-in-Unfit
-returns-in-Unfit g c =
-    let s = c.args.self.now in
-    let n = g.S.Store.dimension s.store in
-    record { says = widen_idle (g.P.Plan.meaning s.plan) n (g.S.Store.need n) (g.S.Store.entries s.store) (g.S.Store.room s.store) s.rounds s.phase (λ e. unfit_open (sym c.in-Unfit.is ∙ e)); means = widen_means (g.P.Plan.meaning s.plan) (g.P.Plan.sound s.plan) n (g.S.Store.need n) s.phase (g.S.Store.entries s.store) (g.S.Store.room s.store) s.rounds (Err refused.Phase) s.phase (g.S.Store.entries s.store) (g.S.Store.room s.store) s.rounds (widen_idle (g.P.Plan.meaning s.plan) n (g.S.Store.need n) (g.S.Store.entries s.store) (g.S.Store.room s.store) s.rounds s.phase (λ e. unfit_open (sym c.in-Unfit.is ∙ e))); plan = refl; clocks = refl }
+    let t = s.store in
+    let n = g.S.Store.dimension t in
+    let M = g.P.Plan.meaning s.plan in
+    let says = widen_idle M n (g.S.Store.need n) (g.S.Store.entries t) (g.S.Store.room t) s.rounds s.phase c.in-Closed.is in
+    record {
+      says = says;
+      means = widen_means M (g.P.Plan.sound s.plan) n (g.S.Store.need n) s.phase (g.S.Store.entries t) (g.S.Store.room t) s.rounds (Err refused.Phase) s.phase (g.S.Store.entries t) (g.S.Store.room t) s.rounds says;
+      plan = refl;
+      clocks = refl;
+    }

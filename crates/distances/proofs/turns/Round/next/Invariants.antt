@@ -1,0 +1,7 @@
+use Rattle.std.proofs.Common.{◌-◌}
+use Rattle.distances.proofs.Turning.{NextLoop}
+use Rattle.distances.proofs.turns.Round.next.Given as goal
+
+abbrev pub invariant-loop-k : goal.invariant-loop-k
+invariant-loop-k g l =
+    NextLoop (g.P.Plan.meaning l.self.plan.now) g.S.Store.need (g.S.Store.dimension l.initial.store) (g.S.Store.entries l.initial.store) (g.S.Store.room l.initial.store) l.self.number (l.self.number - 1) l.k (g.S.Store.dimension l.store) (g.S.Store.entries l.store) (g.S.Store.room l.store)

@@ -1,6 +1,0 @@
-use Rattle.distances.proofs.Turning.{NextLoop}
-use Rattle.distances.proofs.turns.next_round.Given as goal
-
-abbrev pub invariant-loop-k : goal.invariant-loop-k
-invariant-loop-k g l =
-    NextLoop (g.P.Plan.meaning l.plan) g.S.Store.need (g.S.Store.dimension l.initial.store) (g.S.Store.entries l.initial.store) (g.S.Store.room l.initial.store) l.round l.last l.k (g.S.Store.dimension l.store) (g.S.Store.entries l.store) (g.S.Store.room l.store)
