@@ -9,6 +9,7 @@ use Rattle.byte_text.specs.Parts.{Place, parted, tail_places}
 use Rattle.byte_text.proofs.Spelling.{number_back, lacks, lacks_decimal, parted_mark, parted_end}
 use Rattle.texts.specs.declared.words.Letter.TheVariants as letters
 use Rattle.texts.specs.declared.words.Phase.TheVariants as phases
+use Rattle.texts.specs.declared.spot.Spot.TheVariants as spots
 use Rattle.texts.specs.Faults.{Fault, refused, on, field_next, demanded}
 use Rattle.texts.specs.Fields.{number, clocks, bounds, number_field, in_range, clocks_field, listed}
 use Rattle.texts.specs.BoxFields.{box_field, boxed}
@@ -53,13 +54,13 @@ pub demanded_ok : (b : Bool) (r : Refusal) (line : ℕ) (p : Place) → b ≡ tr
 demanded_ok b r line p e = ap (λ t. demanded t r line p) e
 
 pub settled_ok : (s : State) → summed (bare s) ≡ true → settled s ≡ Ok tt
-settled_ok s e = let f = not-true (unsummed s) e in ap (λ t. cond t (refused Chance s.opened 0 s.opening) (Ok tt)) f
+settled_ok s e = let f = not-true (unsummed s) e in ap (λ t. cond t (refused Chance (spots.Line s.opened) s.opening) (Ok tt)) f
 
 field_back : (low high : ℕ) (out : Refusal) (line field at v : ℕ) → high < 2 ^ 62 → low ≤ v → v ≤ high → number_field low high out line field (record { bytes = decimal v; at = at }) ≡ Ok (number v (record { bytes = decimal v; at = at }))
 field_back low high out line field at v small a b =
     let p : Place = record { bytes = decimal v; at = at } in
     ap (in_range low high out line field p) (number_back (high + 1) v (omega arith) (omega arith))
-    ∙ ap (λ t. cond t (Ok (number v p)) (refused out line field p)) (and_from (leb low v) (leb v high) (le-leb low v a) (le-leb v high b))
+    ∙ ap (λ t. cond t (Ok (number v p)) (refused out (spots.Field line field) p)) (and_from (leb low v) (leb v high) (le-leb low v a) (le-leb v high b))
 
 box_back : (n line field at : ℕ) (ms : List BoundText) → n ≤ 8 → All (FineBound n) ms → box_field n line field (record { bytes = spell_box ms; at = at }) ≡ Ok (bounds (box_by ms) (record { bytes = spell_box ms; at = at }))
 box_back n line field at ms few f = ap (boxed line field (record { bytes = spell_box ms; at = at })) (box_all n at ms few f)

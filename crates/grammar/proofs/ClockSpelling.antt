@@ -3,6 +3,7 @@ use Rattle.std.proofs.Common.{◌≡◌, ℕ, suc, ◌+◌, ◌-◌, ◌<◌, �
 use Rattle.std.proofs.lemmas.Bool.Decides.{nat_tests}
 use Rattle.std.proofs.lemmas.Bool.{cond-false, and_parts, and_from, leb-true}
 use Rattle.std.specs.Str.{all_ascii_digits}
+use Rattle.std.specs.Str.Parse.{digits_value}
 use Rattle.std.specs.Char.{is_ascii_digit}
 use Rattle.std.proofs.lemmas.Fmt.{decimal_nonempty}
 use Rattle.bounds.specs.declared.refusal.Refusal.{Refusal}
@@ -11,7 +12,7 @@ use Rattle.byte_text.specs.Numerals.{number_to}
 use Rattle.byte_text.specs.Parts.{Place, parted}
 use Rattle.byte_text.proofs.Spelling.{digits_all, number_back, number_there, lacks, lacks_decimal, lacks_append, parted_mark, parted_end, joins, joins_parted, parted_not_empty}
 use Rattle.texts.specs.Fields.{dash, numerals, clocks_from, clock_list}
-use Rattle.texts.proofs.ClockSteps.{one_clock, no_clock, not_number, dash_other}
+use Rattle.texts.proofs.ClockSteps.{numeral_none, numeral_some}
 use Rattle.grammar.specs.BoxesWritten.{commas, spell_clocks, OneOf, All, marked_by, resets_by}
 use Rattle.grammar.proofs.BoxSpelling.{apart, dash_there}
 
@@ -22,10 +23,32 @@ pub record ClocksSaid (n : ℕ) (text : List ℕ) (ms : List Bool) : Type 0 wher
   pub fine : All (OneOf n) clocks
   pub marks : ms ≡ resets_by clocks
 
+-- one item of a list, and those after it
+module _ (n : ℕ) (ok : Bool) (ms : List Bool) (p : Place) (ps : List Place) where
+  not_number : None ≡ number_to (n + 1) p.bytes → clocks_from n ok ms (p ∷ ps) ≡ Err Number
+  not_number none = let e = numeral_none (n + 1) p.bytes none in grind arith
+
+  one_clock : (v : ℕ) → Some v ≡ number_to (n + 1) p.bytes → 1 ≤ v → v ≤ n → clocks_from n ok ms (p ∷ ps) ≡ clocks_from n ok (set ms (v - 1) true) ps
+  one_clock v some low high =
+      let e = numeral_some (n + 1) v p.bytes some in
+      let is : digits_value 10 p.bytes ≡ v = omega (arith, e.1) in
+      let num = e.0 in
+      grind (arith, nat_tests)
+
+  no_clock : (v : ℕ) → Some v ≡ number_to (n + 1) p.bytes → ((1 ≤ v) × (v ≤ n) → ⊥) → clocks_from n ok ms (p ∷ ps) ≡ clocks_from n false ms ps
+  no_clock v some out =
+      let e = numeral_some (n + 1) v p.bytes some in
+      let num = e.0 in
+      let is = e.1 in
+      grind (arith, nat_tests)
+
+dash_other : (bs : List ℕ) → (get_or bs 0 0 ≡ 45 → ⊥) → dash bs ≡ false
+dash_other bs h = grind (arith, nat_tests)
+
 clock_step : (n : ℕ) (ms : List Bool) (c at : ℕ) (ps : List Place) → n ≤ 8 → OneOf n c → clocks_from n true ms (record { bytes = decimal c; at = at } ∷ ps) ≡ clocks_from n true (set ms (c - 1) true) ps
 clock_step n ms c at ps few f =
     let p : Place = record { bytes = decimal c; at = at } in
-    one_clock n true ms p (p ∷ ps) refl c (sym (number_back (n + 1) c (omega (arith, f.high)) (omega (arith, f.high)))) f.low f.high
+    one_clock n true ms p ps c (sym (number_back (n + 1) c (omega (arith, f.high)) (omega (arith, f.high)))) f.low f.high
 
 lacks_clock : (b n c : ℕ) → b < 48 → n ≤ 8 → OneOf n c → lacks b (decimal c) ≡ true
 lacks_clock b n c low few f = lacks_decimal b c low (omega (arith, f.high))
@@ -68,7 +91,7 @@ record First (n : ℕ) (ms ms' : List Bool) (p : Place) (ps : List Place) : Type
   rest : Ok ms' ≡ clocks_from n true (set ms (clock - 1) true) ps
 
 first_with : (n : ℕ) (ms ms' : List Bool) (p : Place) (ps : List Place) (o : Option ℕ) → n ≤ 8 → o ≡ number_to (n + 1) p.bytes → Ok ms' ≡ clocks_from n true ms (p ∷ ps) → First n ms ms' p ps
-first_with n ms ms' p ps None few is e = absurd (never (e ∙ not_number n true ms p (p ∷ ps) refl is)) where
+first_with n ms ms' p ps None few is e = absurd (never (e ∙ not_number n true ms p ps is)) where
   never : ◌≡◌ {A = Result (List Bool) Refusal} (Ok ms') (Err Number) → ⊥
   never q = let z : ◌≡◌ {A = ℕ} 0 1 = cc in omega arith
 first_with n ms ms' p ps (Some v) few is e =
@@ -77,8 +100,8 @@ first_with n ms ms' p ps (Some v) few is e =
           let q = and_parts (leb 1 v) (leb v n) h in
           let low = leb-true 1 v q.0 in
           let high = leb-true v n q.1 in
-          record { clock = v; spelt = number_there (n + 1) v p.bytes (omega arith) (omega arith) is; fine = record { low = low; high = high }; rest = e ∙ one_clock n true ms p (p ∷ ps) refl v is low high }
-      | false ↦ λ h. let out : (1 ≤ v) × (v ≤ n) → ⊥ = λ r. outside v h r in absurd (false_never n ms ms' ps (e ∙ no_clock n true ms p (p ∷ ps) refl v is out))
+          record { clock = v; spelt = number_there (n + 1) v p.bytes (omega arith) (omega arith) is; fine = record { low = low; high = high }; rest = e ∙ one_clock n true ms p ps v is low high }
+      | false ↦ λ h. let out : (1 ≤ v) × (v ≤ n) → ⊥ = λ r. outside v h r in absurd (false_never n ms ms' ps (e ∙ no_clock n true ms p ps v is out))
     ] refl where
       outside : (v : ℕ) → (leb 1 v && leb v n) ≡ false → (1 ≤ v) × (v ≤ n) → ⊥
       outside v h r = grind (arith, nat_tests)

@@ -15,6 +15,7 @@ use Rattle.byte_text.proofs.Spelling.{number_there, joins, joins_parted}
 use Rattle.texts.specs.declared.words.Letter.{Letter}
 use Rattle.texts.specs.declared.words.Letter.TheVariants as letters
 use Rattle.texts.specs.declared.words.Phase.TheVariants as phases
+use Rattle.texts.specs.declared.spot.Spot.TheVariants as spots
 use Rattle.texts.specs.Faults.{refused, field_next, no_field, demanded, fields_of}
 use Rattle.texts.specs.Fields.{Shown, word, number, clocks, bounds, number_field, in_range, clocks_field, listed, clock_list}
 use Rattle.texts.specs.BoxFields.{box_field, boxed, box_of}
@@ -77,7 +78,7 @@ listed_there : (line field : ℕ) (p : Place) (r : Result (List Bool) Refusal) (
 listed_there line field p (Ok ms) f e = let is : f ≡ clocks ms p = cc in ap (λ x. Ok (clocks_in x)) is
 listed_there line field p (Err g) f e = absurd (let z : ◌≡◌ {A = ℕ} 0 1 = cc in omega arith)
 
-word_there : (b : Bool) (x k : Shown) (line : ℕ) (p : Place) → Ok k ≡ cond b (Ok x) (refused Line line 0 p) → (b ≡ true) × (k ≡ x)
+word_there : (b : Bool) (x k : Shown) (line : ℕ) (p : Place) → Ok k ≡ cond b (Ok x) (refused Line (spots.Line line) p) → (b ≡ true) × (k ≡ x)
 word_there true x k line p e = let is : k ≡ x = cc in (refl, is)
 word_there false x k line p e = absurd (let z : ◌≡◌ {A = ℕ} 0 1 = cc in omega arith)
 
@@ -92,7 +93,7 @@ kind_there line p a k e =
     ∙ ap (λ (x : Shown). kind (time_in x)) (sym r.1)
 
 pub settled_there : (s : State) (u : Unit {0}) → Ok u ≡ settled s → summed (bare s) ≡ true
-settled_there s u e = elim (unsummed s) as (λ t. Ok u ≡ cond t (refused Chance s.opened 0 s.opening) (Ok tt) → not t ≡ true) [ true ↦ λ e. absurd (let z : ◌≡◌ {A = ℕ} 0 1 = cc in omega arith) | false ↦ λ e. refl ] e
+settled_there s u e = elim (unsummed s) as (λ t. Ok u ≡ cond t (refused Chance (spots.Line s.opened) s.opening) (Ok tt) → not t ≡ true) [ true ↦ λ e. absurd (let z : ◌≡◌ {A = ℕ} 0 1 = cc in omega arith) | false ↦ λ e. refl ] e
 
 -- the letter's byte
 abbrev byte_of : Letter → ℕ

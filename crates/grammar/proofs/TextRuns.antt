@@ -6,6 +6,7 @@ use Rattle.bounds.specs.declared.time.PlanTime.TheVariants.{Cycle, Hand}
 use Rattle.byte_text.specs.Parts.{Place, parted}
 use Rattle.byte_text.proofs.Spelling.{lacks, lacks_decimal, lacks_append, parted_mark, joins, joins_parted}
 use Rattle.texts.specs.declared.words.Letter.TheVariants as letters
+use Rattle.texts.specs.declared.spot.Spot.TheVariants as spots
 use Rattle.texts.specs.Faults.{Fault, refused, field_next, demanded, fields_of}
 use Rattle.texts.specs.Words.{letter_of, stands_at}
 use Rattle.texts.specs.PlanRows.{Tables, none_taken}
@@ -61,7 +62,7 @@ torn_never s line p h e =
     let a = on_ok {X = Place} (field_next line p (fields_of p)) _ h e in
     let b = on_ok {X = Unit {0}} (settled_by (letter_of a.0.bytes) s) _ h a.2 in
     never b.2 where
-      never : ◌≡◌ {A = Result Header Fault} (Ok h) (refused Line line 0 p) → ⊥
+      never : ◌≡◌ {A = Result Header Fault} (Ok h) (refused Line (spots.Line line) p) → ⊥
       never q = let z : ◌≡◌ {A = ℕ} 0 1 = cc in omega arith
 
 ending_said : (bs : List ℕ) (at : ℕ) (s : State) (line : ℕ) (h : Header) (r : Tables) → ending (record { bytes = bs; at = at }) s line ≡ good h r → Ends bs s h r
@@ -142,14 +143,14 @@ pub record Led (text : List ℕ) (t : Tables) (h : Header) (r : Tables) : Type 0
 
 pub only_led : (text : List ℕ) (t : Tables) (h : Header) (r : Tables) → read_text text t ≡ good h r → Led text t h r
 only_led text t h r e =
-    elim (leb (length text) 16384) as (λ x. (x ≡ true → length text ≤ 16384) → cond x (run (parted 10 0 text) (start (none_taken t)) 0) (stopped (refused Rows 0 0 (record { bytes = text; at = 0 })) (start t)) ≡ good h r → Led text t h r) [
+    elim (leb (length text) 16384) as (λ x. (x ≡ true → length text ≤ 16384) → cond x (run (parted 10 0 text) (start (none_taken t)) 0) (stopped (refused Rows spots.Text (record { bytes = text; at = 0 })) (start t)) ≡ good h r → Led text t h r) [
       | true ↦ λ le k. let d = run_said (parted 10 0 text) (start (none_taken t)) 0 h r (start_sound t) k in
           record { items = d.items; plan = d.plan; short = le refl; lines = sym (joins_parted 10 0 text) ∙ d.lines; leads = d.leads; whole = d.whole }
-      | false ↦ λ _ k. absurd (refused_never (record { refusal = Rows; line = 0; field = 0; part = record { bytes = text; at = 0 } }) (start t) h r k)
+      | false ↦ λ _ k. absurd (refused_never (record { refusal = Rows; spot = spots.Text; part = record { bytes = text; at = 0 } }) (start t) h r k)
     ] (leb-true (length text) 16384) e
 
 pub all_led : (items : List LineText) (text : List ℕ) (t : Tables) (b : Part) → length text ≤ 16384 → text ≡ spelled items → Leads (empty (none_taken t)) items b → Whole b → read_text text t ≡ accepted b
 all_led items text t b short lines leads whole =
-    ap (λ x. cond x (run (parted 10 0 text) (start (none_taken t)) 0) (stopped (refused Rows 0 0 (record { bytes = text; at = 0 })) (start t))) (le-leb (length text) 16384 short)
+    ap (λ x. cond x (run (parted 10 0 text) (start (none_taken t)) 0) (stopped (refused Rows spots.Text (record { bytes = text; at = 0 })) (start t))) (le-leb (length text) 16384 short)
     ∙ (ap (λ x. run (parted 10 0 x) (start (none_taken t)) 0) lines
     ∙ run_back items (start (none_taken t)) 0 0 b (start_sound t) leads whole)

@@ -17,5 +17,5 @@ PassesCheck (Err f) t = Unit {0}
 abbrev pub TableSays : {T : Type 0} → T → ℕ → Tables → Result (TablePlan T) RowFault → Type 0
 TableSays time n t (Ok p) =
     (p.time ≡ time) × (p.clocks ≡ n)
-    × (p.positions.now ≡ taken t.positions) × (p.moves.now ≡ taken t.moves) × (p.outcomes.now ≡ taken t.outcomes) × (p.goals.now ≡ taken t.goals)
+    × (p.rows.positions.now ≡ taken t.positions) × (p.rows.moves.now ≡ taken t.moves) × (p.rows.outcomes.now ≡ taken t.outcomes) × (p.rows.goals.now ≡ taken t.goals)
 TableSays time n t (Err f) = RowsWrong n (taken t.positions) (taken t.moves) (taken t.outcomes) (taken t.goals) f

@@ -6,6 +6,7 @@ ghost use Rattle.grammar.specs.Tables.{TableSays};
 
 use bounds::time::TimeDomain;
 use plans::faults::RowFault;
+use plans::lent_rows::Rows;
 use plans::table::TablePlan;
 use texts::plan_rows::PlanRows;
 
@@ -21,9 +22,11 @@ pub fn table_over<'a, T: TimeDomain + Copy>(
     TablePlan::new(
         time,
         clocks,
-        rows.positions.rows(),
-        rows.moves.rows(),
-        rows.outcomes.rows(),
-        rows.goals.rows(),
+        Rows {
+            positions: rows.positions.rows(),
+            moves: rows.moves.rows(),
+            outcomes: rows.outcomes.rows(),
+            goals: rows.goals.rows(),
+        },
     )
 }

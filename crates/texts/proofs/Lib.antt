@@ -1,3 +1,4 @@
+pub mod ItemSteps
 pub mod ClockSteps
 pub mod BoxSteps
 pub mod LineWalks

@@ -1,9 +1,9 @@
 -- What the steps of a line tell.
-use Rattle.std.proofs.Common.{◌≡◌, ℕ, ◌+◌, ◌≤◌, Bool, true, false, Some, None, Ok, Option, refl, arith}
+use Rattle.std.proofs.Common.{◌≡◌, ℕ, ◌+◌, ◌^◌, ◌<◌, ◌≤◌, Bool, true, false, List, length, Some, None, Ok, Option, refl, ap, arith}
 use Rattle.std.proofs.lemmas.Bool.Decides.{nat_tests}
 use Rattle.bounds.specs.declared.refusal.Refusal.{Refusal}
 use Rattle.byte_text.specs.Numerals.{number_to}
-use Rattle.byte_text.specs.Parts.{Place}
+use Rattle.byte_text.specs.Parts.{Place, parted, within}
 use Rattle.texts.specs.Faults.{demanded}
 use Rattle.texts.specs.Fields.{Shown, number_field, in_range, number, word, clocks, bounds}
 use Rattle.texts.specs.declared.words.Phase.{Phase}
@@ -32,3 +32,7 @@ in_range_high low high out line field p (Some v) f e = elim f as (λ f. Ok f ≡
 
 pub field_high : (low high : ℕ) (out : Refusal) (line field : ℕ) (p : Place) (f : Shown) → Ok f ≡ number_field low high out line field p → number_in f ≤ high
 field_high low high out line field p f e = in_range_high low high out line field p (number_to (high + 1) p.bytes) f e
+
+-- a part that ends where places can be numbered is walked from its own place
+pub from_place : (b at : ℕ) (bs : List ℕ) → at + length bs < 2 ^ 64 → parted b (within at bs) bs ≡ parted b at bs
+from_place b at bs h = let e : within at bs ≡ at = omega arith in ap (λ (x : ℕ). parted b x bs) e

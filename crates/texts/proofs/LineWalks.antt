@@ -1,8 +1,8 @@
 -- The three ways of `next_line`.
 use Rattle.std.proofs.Common.{◌≡◌, ℕ, ◌+◌, ◌-◌, ◌<◌, ◌≤◌, false, List, [], ◌∷◌, length, take, drop, sym, refl, ap, ◌∙◌, arith, length-drop}
-use Rattle.std.proofs.lemmas.List.{take_rest, drop-drop, at_drop_all, take_all, drop_all}
+use Rattle.std.proofs.lemmas.List.{take_rest, drop-drop, take_all}
 use Rattle.byte_text.specs.Parts.{up_to, parted}
-use Rattle.texts.specs.Readers.{whole, torn, over, next_of, rest_of, is_empty}
+use Rattle.texts.specs.Readers.{whole, torn, next_of, rest_of, is_empty}
 use Rattle.byte_text.proofs.Parting.{parted_first, after_some, after_none}
 
 pub empty_not : {X : Type 0} (l : List X) → 0 < length l → is_empty l ≡ false
@@ -12,10 +12,7 @@ empty_not (x ∷ xs) h = refl
 pub parted_some : (b at : ℕ) (xs : List ℕ) → 0 < length (parted b at xs)
 parted_some b at xs = let e = ap length (parted_first b at xs) in omega arith
 
-pub line_over : (text : List ℕ) (at : ℕ) → length text ≤ at → (over (record { bytes = take (length text - at) (drop at text); at = at }) ≡ next_of (parted 10 at (drop at text))) × (parted 10 at (drop at text) ≡ rest_of (parted 10 at (drop at text)))
-line_over text at h = let e : parted 10 at (drop at text) ≡ record { bytes = []; at = at } ∷ [] = at_drop_all (parted 10 at) text at h in let d : drop at text ≡ [] = drop_all at text h in (rw (e, take_rest text at, d), rw e)
-
-module _ (text : List ℕ) (at n : ℕ) (inside : at < length text) (is : n ≡ up_to 10 (take (length text - at) (drop at text))) where
+module _ (text : List ℕ) (at n m : ℕ) (is : n ≡ up_to 10 (take (length text - at) (drop at text))) where
   same : n ≡ up_to 10 (drop at text)
   same = is ∙ ap (up_to 10) (take_rest text at)
 
@@ -25,24 +22,23 @@ module _ (text : List ℕ) (at n : ℕ) (inside : at < length text) (is : n ≡ 
   left : length (drop at text) ≡ length text - at
   left = length-drop at text
 
-  pub line_there : n < length (take (length text - at) (drop at text)) → (whole (record { bytes = take (n - 0) (drop 0 (take (length text - at) (drop at text))); at = at }) ≡ next_of (parted 10 at (drop at text))) × (parted 10 (at + n + 1) (drop (at + n + 1) text) ≡ rest_of (parted 10 at (drop at text)))
+  pub line_there : n < length (take (length text - at) (drop at text)) → (whole m (record { bytes = take n (take (length text - at) (drop at text)); at = at }) ≡ next_of m (parted 10 at (drop at text))) × (parted 10 (at + n + 1) (drop (at + n + 1) text) ≡ rest_of (parted 10 at (drop at text)))
   line_there h =
       let first = parted_first 10 at (drop at text) in
       let lt : n < length (drop at text) = omega (arith, long, left) in
       let some = after_some 10 at (drop at text) n same lt in
-      let e : n - 0 ≡ n = omega arith in
       let k : at + (n + 1) ≡ at + n + 1 = omega arith in
       let rest : parted 10 (at + (n + 1)) (take (length (drop at text) - (n + 1)) (drop (n + 1) (drop at text))) ≡ parted 10 (at + n + 1) (drop (at + n + 1) text) = rw (take_rest, drop-drop, k) in
       let all : parted 10 at (drop at text) ≡ record { bytes = take n (drop at text); at = at } ∷ parted 10 (at + n + 1) (drop (at + n + 1) text) = first ∙ (λ i. record { bytes = take (sym same i) (drop at text); at = at } ∷ (sym some ∙ rest) i) in
       let more = empty_not (parted 10 (at + n + 1) (drop (at + n + 1) text)) (parted_some 10 (at + n + 1) (drop (at + n + 1) text)) in
-      (rw (all, more, e, take_rest text at), rw (all, more))
+      (rw (all, more, take_rest text at), rw (all, more))
 
-  pub line_open : length (take (length text - at) (drop at text)) ≤ n → (torn (record { bytes = take (length text - at) (drop at text); at = at }) ≡ next_of (parted 10 at (drop at text))) × (parted 10 at (drop at text) ≡ rest_of (parted 10 at (drop at text)))
-  line_open h =
+  pub line_open : length (take (length text - at) (drop at text)) ≤ n → (length (take (length text - at) (drop at text)) ≡ 0 → ⊥) → (torn m (record { bytes = take (length text - at) (drop at text); at = at }) ≡ next_of m (parted 10 at (drop at text))) × (parted 10 at (drop at text) ≡ rest_of (parted 10 at (drop at text)))
+  line_open h ne =
       let first = parted_first 10 at (drop at text) in
       let ge : length (drop at text) ≤ n = omega (arith, long, left) in
       let none = after_none 10 at (drop at text) n same ge in
       let cut : take n (drop at text) ≡ drop at text = take_all n (drop at text) ge in
       let all : parted 10 at (drop at text) ≡ record { bytes = drop at text; at = at } ∷ [] = first ∙ (λ i. record { bytes = (ap (λ k. take k (drop at text)) (sym same) ∙ cut) i; at = at } ∷ sym none i) in
-      let more = empty_not (drop at text) (omega (arith, left)) in
+      let more = empty_not (drop at text) (omega (arith, long, left, ne)) in
       (rw (all, more, take_rest text at), rw all)

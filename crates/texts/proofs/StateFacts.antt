@@ -59,7 +59,7 @@ pub record ReadOutcome (may : Bool) (row : Outcome) : Type 0 where
   pub stands : may ≡ true
   pub chance : row.chance ≤ 1000
 
-pub outcome_facts : (may : Bool) (cause known clocks line : ℕ) (p : Place) (ps : List Place) (row : Outcome) → Ok row ≡ outcome_read may cause known clocks line p ps → ReadOutcome may row
+outcome_facts : (may : Bool) (cause known clocks line : ℕ) (p : Place) (ps : List Place) (row : Outcome) → Ok row ≡ outcome_read may cause known clocks line p ps → ReadOutcome may row
 outcome_facts may cause known n line p ps row e =
     let a = on_ok {X = Place} (field_next line p ps) _ row e in
     let b = on_ok {X = Place} (field_next line p (tail_places ps)) _ row a.2 in

@@ -8,8 +8,12 @@ use Rattle.zones.specs.Boxes.{no_side}
 use Rattle.byte_text.specs.Numerals.{number_to}
 use Rattle.byte_text.specs.Parts.{Place, parted}
 use Rattle.texts.specs.declared.boxes.ClockBound.{ClockBound}
-use Rattle.texts.specs.Faults.{Fault, refused}
-use Rattle.texts.specs.Fields.{Shown, bounds, dash}
+use Rattle.texts.specs.Faults.{Fault, on}
+use Rattle.texts.specs.Fields.{Shown, bounds, dash, named_clock, in_field}
+
+-- `<` or `>`
+abbrev pub is_sign : ℕ → Bool
+is_sign x = x == 60 || x == 62
 
 -- how many bytes stand before the first `<` or `>`, or all
 abbrev pub up_to_sign : List ℕ → ℕ
@@ -56,6 +60,18 @@ no_sides = replicate 8 no_side
 unfoldable pub tightened : List Side → ClockBound → List Side
 tightened sides m = slice_set sides (m.clock - 1) (side_with (slice_index_or sides (m.clock - 1) no_side) m.upper m.bound)
 
+abbrev pub tightened_at : List Side → ClockBound → Option ℕ → Option (List Side)
+tightened_at sides m None = None
+tightened_at sides m (Some k) = Some (slice_set sides k (side_with (slice_index_or sides k no_side) m.upper m.bound))
+
+-- the sides with the bound that one item writes: none where it is on no clock from 1 to n
+abbrev pub bound_with_clock : ℕ → List Side → Option ClockBound → Result (Option (List Side)) Refusal
+bound_with_clock n sides None = Err Number
+bound_with_clock n sides (Some m) = Ok (tightened_at sides m (named_clock n m.clock))
+
+abbrev pub bound_item : ℕ → List Side → List ℕ → Result (Option (List Side)) Refusal
+bound_item n sides bs = bound_with_clock n sides (bound_in bs)
+
 -- what the bounds from here on make of the sides so far; `ok` says whether all clocks so far exist
 abbrev pub box_with : ℕ → Bool → List Side → Option ClockBound → (Bool → List Side → Result (List Side) Refusal) → Result (List Side) Refusal
 box_with n ok sides None go = Err Number
@@ -70,8 +86,7 @@ unfoldable pub box_of : ℕ → Place → Result (List Side) Refusal
 box_of n p = cond (dash p.bytes) (Ok no_sides) (box_from n true no_sides (parted 44 p.at p.bytes))
 
 abbrev pub boxed : ℕ → ℕ → Place → Result (List Side) Refusal → Result Shown Fault
-boxed line field p (Ok sides) = Ok (bounds (record { sides = sides }) p)
-boxed line field p (Err r) = refused r line field p
+boxed line field p r = on (in_field line field p r) (λ sides. Ok (bounds (record { sides = sides }) p))
 
 abbrev pub box_field : ℕ → ℕ → ℕ → Place → Result Shown Fault
 box_field n line field p = boxed line field p (box_of n p)

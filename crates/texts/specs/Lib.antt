@@ -1,5 +1,8 @@
+pub mod Spots
 pub mod Faults
+pub mod WrittenFields
 pub mod Fields
+pub mod Items
 pub mod BoxFields
 pub mod Readers
 pub mod Words

@@ -11,6 +11,7 @@ use Rattle.texts.specs.declared.header.Header.{Header}
 use Rattle.texts.specs.declared.words.Letter.{Letter}
 use Rattle.texts.specs.declared.words.Letter.TheVariants as letters
 use Rattle.texts.specs.declared.words.Phase.TheVariants as phases
+use Rattle.texts.specs.declared.spot.Spot.TheVariants as spots
 use Rattle.texts.specs.Faults.{Fault, refused, on, field_next, no_field, demanded, fields_of}
 use Rattle.texts.specs.Fields.{number_field}
 use Rattle.texts.specs.RowReads.{position_read, move_read, outcome_read, goal_read}
@@ -24,7 +25,7 @@ unsummed s = is_moves s.phase && not (open_sum s.rows.moves == 1000)
 
 -- the open move, if any, may end
 abbrev pub settled : State → Result (Unit {0}) Fault
-settled s = cond (unsummed s) (refused Chance s.opened 0 s.opening) (Ok tt)
+settled s = cond (unsummed s) (refused Chance (spots.Line s.opened) s.opening) (Ok tt)
 
 abbrev pub settled_by : Letter → State → Result (Unit {0}) Fault
 settled_by l s = cond (is_outcome l) (Ok tt) (settled s)
@@ -88,7 +89,7 @@ line_of letters.Position s line p ps = position_line s line p ps
 line_of letters.Move s line p ps = move_line s line p ps
 line_of letters.Outcome s line p ps = outcome_line s line p ps
 line_of letters.Goal s line p ps = goal_line s line p ps
-line_of letters.Unknown s line p ps = refused Line line 0 p
+line_of letters.Unknown s line p ps = refused Line (spots.Line line) p
 
 -- what a line p does: first the open move, then the line itself
 abbrev pub stepped : State → ℕ → Place → Result State Fault
@@ -105,7 +106,7 @@ abbrev pub torn_line : State → ℕ → Place → Result Header Fault
 torn_line s line p =
     on (field_next line p (fields_of p)) (λ first.
     on (settled_by (letter_of first.bytes) s) (λ _.
-    refused Line line 0 p))
+    refused Line (spots.Line line) p))
 
 abbrev pub header_of : State → Header
 header_of s = record { time = s.time; clocks = s.clocks }

@@ -3,11 +3,11 @@ use Rattle.std.specs.Prelude.{◌≡◌, ℕ, ◌*◌, ◌≤◌, length, Ok, Er
 use Rattle.bounds.specs.declared.time.PlanTime.{PlanTime}
 use Rattle.byte_text.specs.Parts.{Place, place}
 use Rattle.texts.specs.declared.fault.TextFault.{TextFault}
-use Rattle.texts.specs.declared.progress.Progress.{Progress}
+use Rattle.texts.specs.declared.reading.Reading.{Reading}
 use Rattle.texts.specs.declared.words.Phase.{Phase}
 use Rattle.texts.specs.declared.words.Phase.TheVariants as phases
 use Rattle.texts.specs.Faults.{Fault, fault}
-use Rattle.texts.specs.PlanRows.{Tables, open_sum}
+use Rattle.texts.specs.PlanRows.{Tables, tables, SameSlices, open_sum}
 
 -- the phase, what the line `T` said, the line of the last move, and the rows
 pub record State : Type 0 where
@@ -18,17 +18,24 @@ pub record State : Type 0 where
   pub opening : Place
   pub rows : Tables
 
-abbrev pub state : Progress → Tables → State
-state p t = record { phase = p.phase; time = p.time; clocks = p.clocks; opened = p.opening.number; opening = place p.opening.whole; rows = t }
+-- a reading without its references
+abbrev pub state : Reading → State
+state r = record { phase = r.phase; time = r.time; clocks = r.clocks; opened = r.opening.number; opening = place r.opening.whole; rows = tables r.rows.now }
 
-abbrev pub seen_state : Result Progress TextFault → Tables → Result State Fault
-seen_state (Ok p) t = Ok (state p t)
-seen_state (Err f) t = Err (fault f)
+-- the state after a line that was accepted
+abbrev pub seen_state : Result (Unit {0}) TextFault → Reading → Result State Fault
+seen_state (Ok u) r = Ok (state r)
+seen_state (Err f) r = Err (fault f)
 
--- a refusal leaves the rows as they were
-abbrev pub KeptBy : {X : Type 0} → Result X TextFault → Tables → Tables → Type 0
-KeptBy (Ok x) t t' = Unit {0}
-KeptBy (Err f) t t' = t ≡ t'
+-- a refusal leaves the state as it was
+abbrev pub KeptBy : {X : Type 0} → Result X TextFault → State → State → Type 0
+KeptBy (Ok x) s s' = Unit {0}
+KeptBy (Err f) s s' = s ≡ s'
+
+-- the lists are the same lists, over the same slices
+pub record SameLists (r r' : Reading) : Type 0 where
+  pub lists : r.rows.ghost_name ≡ r'.rows.ghost_name
+  pub slices : SameSlices r.rows.now r'.rows.now
 
 -- what holds between two lines
 pub record Sound (s : State) : Type 0 where

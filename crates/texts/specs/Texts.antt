@@ -5,6 +5,7 @@ use Rattle.bounds.specs.declared.time.PlanTime.TheVariants.{Cycle}
 use Rattle.byte_text.specs.Parts.{Place, parted}
 use Rattle.texts.specs.declared.header.Header.{Header}
 use Rattle.texts.specs.declared.words.Phase.TheVariants as phases
+use Rattle.texts.specs.declared.spot.Spot.TheVariants as spots
 use Rattle.texts.specs.Faults.{Fault, refused}
 use Rattle.texts.specs.Readers.{is_empty}
 use Rattle.texts.specs.PlanRows.{Tables, none_taken}
@@ -39,4 +40,4 @@ run (p ∷ ps) s line = cond (is_empty ps) (ending p s line) (after (step s (lin
 
 -- what the reader of a text answers and writes
 abbrev pub read_text : List ℕ → Tables → Ending
-read_text text t = cond (nat_le (length text) 16384) (run (parted 10 0 text) (start (none_taken t)) 0) (stopped (refused Rows 0 0 (record { bytes = text; at = 0 })) (start t))
+read_text text t = cond (nat_le (length text) 16384) (run (parted 10 0 text) (start (none_taken t)) 0) (stopped (refused Rows spots.Text (record { bytes = text; at = 0 })) (start t))

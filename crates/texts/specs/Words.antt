@@ -10,6 +10,7 @@ use Rattle.texts.specs.declared.words.Letter.{Letter}
 use Rattle.texts.specs.declared.words.Letter.TheVariants as letters
 use Rattle.texts.specs.declared.words.Phase.{Phase}
 use Rattle.texts.specs.declared.words.Phase.TheVariants as phases
+use Rattle.texts.specs.declared.spot.Spot.TheVariants as spots
 use Rattle.texts.specs.Faults.{Fault, refused}
 use Rattle.texts.specs.Fields.{Shown, word, number, clocks, bounds}
 use Rattle.texts.specs.BoxFields.{no_sides}
@@ -71,7 +72,7 @@ cycle = codes "cycle"
 
 -- the field q of the line p as the word for a kind of time
 abbrev pub kind_field : ℕ → Place → Place → Result Shown Fault
-kind_field line p q = cond (bytes_eq q.bytes hand || bytes_eq q.bytes cycle) (Ok (word q)) (refused Line line 0 p)
+kind_field line p q = cond (bytes_eq q.bytes hand || bytes_eq q.bytes cycle) (Ok (word q)) (refused Line (spots.Line line) p)
 
 -- what a field writes down; a field of another sort writes down nothing
 abbrev pub time_in : Shown → PlanTime

@@ -1,18 +1,15 @@
-ghost use Rattle.std.specs.Prelude.{◌≡◌, ◌+◌, ◌^◌, ◌<◌, ◌≤◌, length};
-ghost use Rattle.byte_text.specs.Parts.{place};
-ghost use Rattle.texts.specs.Fields.{seen_field};
-ghost use Rattle.texts.specs.BoxFields.{up_to_sign, bound_with, bound_in, tighter, tightest, side_with, tightened, box_field};
+ghost use Rattle.std.specs.Prelude.{◌≡◌, position};
+ghost use Rattle.texts.specs.BoxFields.{is_sign, bound_with, bound_in, side_with, bound_item};
 
-use crate::fault::TextFault;
-use crate::field::Field;
-use crate::line::Line;
+use crate::items::Listed;
+use crate::standing::Standing;
 use bounds::bound::Bound;
 use bounds::refusal::Refusal;
+use bounds::tighter::{highest, lowest};
 use byte_text::numerals::number_to;
-use byte_text::parts::{Part, Parts};
-use zones::boxes::{ClockBox, Side};
+use zones::boxes::Side;
 
-// One bound in the text of a box: which clock it is on, on which side, and the bound.
+// One bound in the text of a box: which clock it is on, whether it is one from above, as the sign says, and the bound.
 // Every clock above 8 counts as 9.
 #[derive(Clone, Copy)]
 pub struct ClockBound {
@@ -21,90 +18,43 @@ pub struct ClockBound {
     pub bound: Bound,
 }
 
-// How many bytes stand before the first `<` or `>`, or all.
-fn up_to_sign(bytes: &[u8]) -> usize
-    ensures value { result ≡ up_to_sign bytes.now }
-    ensures bound { result ≤ length bytes.now }
+// Where the first `<` or `>` stands.
+fn sign_at(bytes: &[u8]) -> Option<usize>
+    ensures { result ≡ position is_sign bytes.now }
 {
-    let mut i = 0;
-    while i < bytes.len() && bytes[i] != b'<' && bytes[i] != b'>' {
-        i += 1;
-    }
-    i
+    bytes.iter().position(|b| *b == b'<' || *b == b'>')
 }
 
 // The bound that these bytes before and after the sign write.
 fn bound_of(upper: bool, closed: bool, clock: &[u8], number: &[u8]) -> Option<ClockBound>
     ensures { result ≡ bound_with upper closed clock.now number.now }
 {
-    match number_to(clock, 9) {
-        None => None,
-        Some(clock) => match number_to(number, 1_000_001) {
-            None => None,
-            Some(number) => {
-                if number <= 1_000_000 {
-                    let bound = Bound {
-                        number: number as i32,
-                        closed,
-                    };
-                    Some(ClockBound {
-                        clock,
-                        upper,
-                        bound,
-                    })
-                } else {
-                    None
-                }
-            }
-        },
+    let clock = number_to(clock, 9)?;
+    let number = number_to(number, 1_000_001)?;
+    if number > 1_000_000 {
+        return None;
     }
+    let bound = Bound {
+        number: number as i32,
+        closed,
+    };
+    Some(ClockBound {
+        clock,
+        upper,
+        bound,
+    })
 }
 
 // The bound that `bytes` write, as `1<=4`.
 fn bound_in(bytes: &[u8]) -> Option<ClockBound>
     ensures { result ≡ bound_in bytes.now }
 {
-    let k = up_to_sign(bytes);
-    if k >= bytes.len() {
-        return None;
-    }
+    let k = sign_at(bytes)?;
     let upper = bytes[k] == b'<';
-    let e = k + 1;
-    let clock = &bytes[0..k];
-    let rest = &bytes[e..];
-    if rest.len() > 0 && rest[0] == b'=' {
-        bound_of(upper, true, clock, &rest[1..])
-    } else {
-        bound_of(upper, false, clock, rest)
-    }
-}
-
-// Whether the new bound asks more than the old one, of the same clock on the same side.
-fn is_tighter(upper: bool, new: Bound, old: Bound) -> bool
-    ensures { result ≡ tighter upper new old }
-{
-    if new.number < old.number {
-        return upper;
-    }
-    if old.number < new.number {
-        return !upper;
-    }
-    !new.closed && old.closed
-}
-
-// The tighter of the two.
-fn tightest_of(upper: bool, old: Option<Bound>, new: Bound) -> Option<Bound>
-    ensures { result ≡ tightest upper old new }
-{
-    match old {
-        None => Some(new),
-        Some(held) => {
-            if is_tighter(upper, new, held) {
-                Some(new)
-            } else {
-                Some(held)
-            }
-        }
+    let clock = &bytes[..k];
+    match &bytes[k + 1..] {
+        [b'=', number @ ..] => bound_of(upper, true, clock, number),
+        number => bound_of(upper, false, clock, number),
     }
 }
 
@@ -114,55 +64,28 @@ fn narrowed(side: Side, upper: bool, bound: Bound) -> Side
 {
     if upper {
         Side {
-            lower: side.lower,
-            upper: tightest_of(true, side.upper, bound),
+            upper: lowest(Some(bound), side.upper),
+            ..side
         }
     } else {
         Side {
-            lower: tightest_of(false, side.lower, bound),
-            upper: side.upper,
+            lower: highest(Some(bound), side.lower),
+            ..side
         }
     }
 }
 
-impl<'t> Line<'t> {
-    // Bounds on clocks from 1 to `known`, parted by commas, or `-` for none. Of several on one side of a clock the tightest counts.
-    pub fn clock_box(
-        self,
-        field: usize,
-        part: Part<'t>,
-        known: u64,
-    ) -> Result<Field<'t>, TextFault<'t>>
-        requires few { known ≤ 8 }
-        requires placed { part.at + length part.bytes.now < 2 ^ 64 }
-        ensures { seen_field result ≡ box_field known self.entry.number field (place part.entry) }
-    {
-        let mut sides = [Side {
-            lower: None,
-            upper: None,
-        }; 8];
-        if part.bytes.len() == 1 && part.bytes[0] == b'-' {
-            return Ok(Field::Bounds(ClockBox { sides }, part));
-        }
-        let mut named = true;
-        let mut items = Parts::new(part, b',');
-        while let Some(item) = items.next() {
-            match bound_in(item.bytes) {
-                None => return Err(self.field_fault(field, part, Refusal::Number)),
-                Some(m) => {
-                    if 1 <= m.clock && m.clock <= known {
-                        let k = (m.clock - 1) as usize;
-                        sides[k] = narrowed(sides[k], m.upper, m.bound);
-                    } else {
-                        named = false;
-                    }
-                }
-            }
-        }
-        if named {
-            Ok(Field::Bounds(ClockBox { sides }, part))
-        } else {
-            Err(self.field_fault(field, part, Refusal::Name))
-        }
+// The sides of a box that its bounds leave.
+impl Listed for [Side; 8] {
+    ghost item = { bound_item };
+
+    fn with_item(self, bytes: &[u8], standing: Standing) -> Result<Option<[Side; 8]>, Refusal> {
+        let more = bound_in(bytes).ok_or(Refusal::Number)?;
+        let Some(k) = standing.clock(more.clock) else {
+            return Ok(None);
+        };
+        let mut sides = self;
+        sides[k] = narrowed(sides[k], more.upper, more.bound);
+        Ok(Some(sides))
     }
 }

@@ -1,4 +1,4 @@
-ghost use Rattle.std.specs.Prelude.{◌≡◌};
+ghost use Rattle.std.specs.Prelude.{◌≡◌, IsOkAnd};
 ghost use Rattle.byte_text.specs.Lines.{text, WriteSays};
 ghost use Rattle.texts.specs.Faults.{fault};
 ghost use Rattle.texts.specs.FaultLines.{told_line, fault_line};
@@ -9,25 +9,24 @@ use byte_text::line::Line;
 
 impl<'t> TextFault<'t> {
     // Writes `E`, a tab, the number of the refusal, a tab, the number of the line and byte 10 at the start of the buffer, leaves the bytes after them, and answers their count.
-    // A shorter buffer is refused by Buffer, and left as it was.
+    // The number of the line is 0 where the text as a whole is refused. A shorter buffer is refused by Buffer, and left as it was.
     pub fn write_line(&self, buffer: &mut [u8]) -> Result<usize, Refusal>
         ensures { WriteSays (fault_line (fault self.now)) buffer.old result buffer.new }
     {
-        let line = told(self.refusal, self.line as u64);
-        line.write(buffer)
+        let number = self.spot.line().unwrap_or(0);
+        told(self.refusal, number as u64)?.write(buffer)
     }
 }
 
-// The line that tells the refusal and the number of a line.
-fn told(refusal: Refusal, number: u64) -> Line
-    ensures { text result ≡ told_line refusal number }
+// The line that tells the refusal and the number of a line: at most 27 bytes, so there is always room.
+fn told(refusal: Refusal, number: u64) -> Result<Line, Refusal>
+    ensures { IsOkAnd result (λ line. text line ≡ told_line refusal number) }
 {
     let mut line = Line::new();
-    let _ = line.push(b'E');
-    let _ = line.push(b'\t');
-    let _ = line.number(u64::from(refusal.number()));
-    let _ = line.push(b'\t');
-    let _ = line.number(number);
-    let _ = line.push(b'\n');
-    line
+    line.word(b"E\t")?;
+    line.number(u64::from(refusal.number()))?;
+    line.push(b'\t')?;
+    line.number(number)?;
+    line.push(b'\n')?;
+    Ok(line)
 }

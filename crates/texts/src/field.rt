@@ -1,7 +1,7 @@
 use byte_text::parts::Part;
 use zones::boxes::ClockBox;
 
-// A field that was read: what it writes down, and the part of the text that does.
+// A field that was read: what it writes down, and the part of the text that does. It is asked for as an enum of such tokens, each with its part.
 #[derive(Clone, Copy)]
 pub enum Field<'t> {
     Word(Part<'t>),

@@ -1,17 +1,21 @@
 #![tactic(auto)]
 
 mod boxes;
+mod clock_marks;
 pub mod fault;
 mod fault_line;
 mod field;
 pub mod header;
+mod items;
 mod line;
 mod lines;
-mod numbers;
 pub mod plan_rows;
 pub mod plan_text;
-mod progress;
 mod reader;
+mod reading;
 mod row_reads;
+pub mod spot;
+mod standing;
 mod taking;
 mod words;
+mod written;

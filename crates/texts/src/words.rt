@@ -1,8 +1,7 @@
 ghost use Rattle.std.specs.Prelude.{◌≡◌};
-ghost use Rattle.std.specs.Str.{bytes_eq};
 ghost use Rattle.byte_text.specs.Parts.{place};
 ghost use Rattle.texts.specs.Fields.{shown, seen_field};
-ghost use Rattle.texts.specs.Words.{letter_of, stands_at, kind_field, time_in, number_in, box_in, clocks_in};
+ghost use Rattle.texts.specs.Words.{letter_of, kind_field, time_in, number_in, box_in, clocks_in};
 
 use crate::fault::TextFault;
 use crate::field::Field;
@@ -10,10 +9,10 @@ use crate::line::Line;
 use bounds::refusal::Refusal;
 use bounds::time::PlanTime;
 use byte_text::parts::Part;
-use zones::boxes::{ClockBox, Side};
+use zones::boxes::ClockBox;
 
-// The kinds of lines, by their first field.
-#[derive(Clone, Copy)]
+// The kinds of lines, by their first field. Unknown is a kind too, since a line of no other kind closes the open move before it is refused.
+#[derive(Clone, Copy, PartialEq, Eq, Debug)]
 pub enum Letter {
     Time,
     Position,
@@ -24,7 +23,7 @@ pub enum Letter {
 }
 
 // Where in a text the reader is: before the line `T`, among the positions, among the moves, among the goals.
-#[derive(Clone, Copy)]
+#[derive(Clone, Copy, PartialEq, Eq, Debug)]
 pub enum Phase {
     Begin,
     Positions,
@@ -32,58 +31,19 @@ pub enum Phase {
     Goals,
 }
 
-pub fn letter_of(bytes: &[u8]) -> Letter
-    ensures { result ≡ letter_of bytes.now }
-{
-    if bytes.len() != 1 {
-        return Letter::Unknown;
-    }
-    match bytes[0] {
-        b'T' => Letter::Time,
-        b'P' => Letter::Position,
-        b'M' => Letter::Move,
-        b'O' => Letter::Outcome,
-        b'G' => Letter::Goal,
-        _ => Letter::Unknown,
-    }
-}
+impl From<&[u8]> for Letter {
+    ghost from_gives = { λ bytes letter. letter ≡ letter_of bytes.now };
 
-// Whether a line of this kind may stand here, after so many positions.
-pub fn stands_at(letter: Letter, phase: Phase, positions: usize) -> bool
-    ensures { result ≡ stands_at letter phase positions }
-{
-    match letter {
-        Letter::Time => match phase {
-            Phase::Begin => true,
-            _ => false,
-        },
-        Letter::Position => match phase {
-            Phase::Positions => true,
-            _ => false,
-        },
-        Letter::Move => match phase {
-            Phase::Positions => 0 < positions,
-            Phase::Moves => true,
-            _ => false,
-        },
-        Letter::Outcome => match phase {
-            Phase::Moves => true,
-            _ => false,
-        },
-        Letter::Goal => match phase {
-            Phase::Positions => 0 < positions,
-            Phase::Moves => true,
-            Phase::Goals => true,
-            _ => false,
-        },
-        Letter::Unknown => false,
+    fn from(bytes: &[u8]) -> Letter {
+        match bytes {
+            b"T" => Letter::Time,
+            b"P" => Letter::Position,
+            b"M" => Letter::Move,
+            b"O" => Letter::Outcome,
+            b"G" => Letter::Goal,
+            _ => Letter::Unknown,
+        }
     }
-}
-
-fn is_word(bytes: &[u8], word: &[u8]) -> bool
-    ensures { result ≡ bytes_eq bytes.now word.now }
-{
-    bytes == word
 }
 
 impl<'t> Line<'t> {
@@ -91,27 +51,20 @@ impl<'t> Line<'t> {
     pub fn kind(self, part: Part<'t>) -> Result<Field<'t>, TextFault<'t>>
         ensures { seen_field result ≡ kind_field self.entry.number (place self.entry.whole) (place part.entry) }
     {
-        if is_word(part.bytes, b"hand") || is_word(part.bytes, b"cycle") {
-            Ok(Field::Word(part))
-        } else {
-            Err(self.fault(Refusal::Line))
+        match part.bytes {
+            b"hand" | b"cycle" => Ok(Field::Word(part)),
+            _ => Err(self.fault(Refusal::Line)),
         }
     }
 }
 
-// What a field writes down; a field of another sort writes down nothing.
+// What a field writes down. The enum of fields is asked for; one of another sort writes down nothing, which no caller meets, since each takes a field that its own reader made.
 impl<'t> Field<'t> {
     pub fn time(self) -> PlanTime
         ensures { result ≡ time_in (shown self.entry) }
     {
         match self {
-            Field::Word(part) => {
-                if is_word(part.bytes, b"hand") {
-                    PlanTime::Hand
-                } else {
-                    PlanTime::Cycle
-                }
-            }
+            Field::Word(Part { bytes: b"hand", .. }) => PlanTime::Hand,
             _ => PlanTime::Cycle,
         }
     }
@@ -130,12 +83,7 @@ impl<'t> Field<'t> {
     {
         match self {
             Field::Bounds(b, _) => b,
-            _ => ClockBox {
-                sides: [Side {
-                    lower: None,
-                    upper: None,
-                }; 8],
-            },
+            _ => ClockBox::default(),
         }
     }
 

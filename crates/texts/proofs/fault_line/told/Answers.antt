@@ -1,13 +1,19 @@
-use Rattle.std.proofs.Common.{◌≡◌, ℕ, [], ◌∷◌, ◌++◌, decimal, ap, ◌∙◌}
-use Rattle.bounds.specs.Refusals.{number}
-use Rattle.byte_text.specs.Lines.{text}
-use Rattle.texts.proofs.Telling.{told_so}
+use Rattle.std.proofs.Common.{[], ◌∷◌, length, decimal, ap, arith}
+use Rattle.texts.proofs.Telling.{longer, few_digits}
 use Rattle.texts.proofs.fault_line.told.Goals as goal
 
-pub returns : goal.returns
-returns c =
-    let is : c.from.result ≡ number c.args.refusal = c.from.ensures ∙ c.number.ensures in
-    told_so c.from.result c.args.number (text c.new-line.result) (text c.push.new.self) (text c.push-2.new.self) (text c.number-2.new.self) (text c.push-3.new.self) (text c.number-3.new.self) (text c.push-4.new.self)
-    c.push.result c.push-2.result c.number-2.result c.push-3.result c.number-3.result c.push-4.result
-    c.from.type_inv c.ranges.number.fits c.new-line.ensures c.push.ensures c.push-2.ensures c.number-2.ensures c.push-3.ensures c.number-3.ensures c.push-4.ensures
-    ∙ ap (λ (n : ℕ). 69 ∷ 9 ∷ (decimal n ++ (9 ∷ (decimal c.args.number ++ (10 ∷ []))))) is
+pub returns-in_err-number : goal.returns-in_err-number
+returns-in_err-number c =
+    absurd (omega (arith, c.in_err-number.ensures.1, few_digits c.from.result c.from.type_inv, ap length c.new-line.ensures, longer _ _ (69 ∷ 9 ∷ []) c.in_ok-word.ensures.1))
+
+pub returns-in_err-push : goal.returns-in_err-push
+returns-in_err-push c =
+    absurd (omega (arith, c.in_err-push.ensures.1, few_digits c.from.result c.from.type_inv, ap length c.new-line.ensures, longer _ _ (69 ∷ 9 ∷ []) c.in_ok-word.ensures.1, longer _ _ (decimal c.from.result) c.in_ok-number.ensures.1))
+
+pub returns-in_err-number-2 : goal.returns-in_err-number-2
+returns-in_err-number-2 c =
+    absurd (omega (arith, c.in_err-number-2.ensures.1, few_digits c.from.result c.from.type_inv, few_digits c.args.number c.ranges.number.fits, ap length c.new-line.ensures, longer _ _ (69 ∷ 9 ∷ []) c.in_ok-word.ensures.1, longer _ _ (decimal c.from.result) c.in_ok-number.ensures.1, longer _ _ (9 ∷ []) c.in_ok-push.ensures.1))
+
+pub returns-in_err-push-2 : goal.returns-in_err-push-2
+returns-in_err-push-2 c =
+    absurd (omega (arith, c.in_err-push-2.ensures.1, few_digits c.from.result c.from.type_inv, few_digits c.args.number c.ranges.number.fits, ap length c.new-line.ensures, longer _ _ (69 ∷ 9 ∷ []) c.in_ok-word.ensures.1, longer _ _ (decimal c.from.result) c.in_ok-number.ensures.1, longer _ _ (9 ∷ []) c.in_ok-push.ensures.1, longer _ _ (decimal c.args.number) c.in_ok-number-2.ensures.1))

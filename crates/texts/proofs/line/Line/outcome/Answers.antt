@@ -7,5 +7,6 @@ use Rattle.texts.proofs.line.Line.outcome.Goals as goal
 
 pub overflow_cast-result : goal.overflow_cast-result
 overflow_cast-result c =
-    let high = field_high 0 1000 Number c.args.self.number 2 (place c.in_ok-chance.chance) (shown c.in_ok-chance-2.chance) c.in_ok-chance-2.ensures in
-    omega (arith, high, c.number-3.ensures)
+    let w = c.in_ok-chance.chance in
+    let high = field_high 0 1000 Number w.line w.number (place w.part) (shown c.in_ok-chance-2.chance) c.in_ok-chance-2.ensures in
+    omega (arith, high, c.number.ensures)
