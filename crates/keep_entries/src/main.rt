@@ -1,43 +1,27 @@
 #![tactic(auto)]
 
-use anyhow::anyhow;
 use bounds::bound::Bound;
 use bounds::refusal::Refusal;
 use bounds::time::HandTime;
+use byte_text::line::Line;
 use entries::clock_count::ClockCount;
 use entries::entry::Entry;
-use std::io::Write;
+use std::io;
 use stores::line_store::LineStore;
-use stores::loan::OnLoan;
 use stores::row_store::RowStore;
 use stores::store::Store;
 use zones::zone::Zone;
 
 // Fills a line store of 33 bytes to its last byte, and a row store of two rows, with the same entries, and lists what each holds.
-// The bytes lent are printed at the end, between dots that have to stay.
+// The line store is lent all but the first two bytes and the last five. All 40 are printed after its list, and the dots have to stay.
 fn main(rt: HostRuntime) -> anyhow::Result<()> {
-    run(&rt)
-}
-
-fn run(rt: &HostRuntime) -> anyhow::Result<()> {
-    let Ok(clocks) = ClockCount::new(1) else {
-        return Err(anyhow!("no clock count"));
-    };
+    let clocks = ClockCount::try_from(1)?;
     let mut bytes = [b'.'; 40];
-    try_lines(rt, clocks, &mut bytes)?;
+    try_store(&rt, &mut LineStore::new(clocks, &mut bytes[2..35]))?;
+    rt.write_all(&bytes)?;
+    rt.write_all(b"\n")?;
     let mut rows = [all(); 2];
-    try_store(rt, &mut RowStore::new(clocks, &mut rows))
-}
-
-// Lends the store all but the first two bytes and the last five.
-fn try_lines(rt: &HostRuntime, clocks: ClockCount, bytes: &mut [u8]) -> anyhow::Result<()> {
-    if bytes.len() < 7 {
-        return Err(anyhow!("too few bytes"));
-    }
-    let end = bytes.len() - 5;
-    try_store(rt, &mut LineStore::new(clocks, &mut bytes[2..end]))?;
-    rt.stdout().write_all(bytes)?;
-    rt.stdout().write_all(b"\n")?;
+    try_store(&rt, &mut RowStore::new(clocks, &mut rows))?;
     Ok(())
 }
 
@@ -51,57 +35,45 @@ fn all() -> Entry {
 }
 
 // An entry in which a clock reads at most 4.
-fn low(clock: usize) -> Entry {
+fn low(clock: usize) -> Result<Entry, Refusal> {
     let mut zone = Zone::all();
-    let _ = zone.cut(&HandTime, clock, 0, Some(Bound::at_most(4)));
-    Entry {
+    zone.cut(&HandTime, clock, 0, Some(Bound::at_most(4)))?;
+    Ok(Entry {
         position: 1,
         round: 1,
         zone,
-    }
+    })
 }
 
-// Puts an entry that speaks of a clock too many, two that fit, and one too many, and lists the store.
-fn try_store<S: Store>(rt: &HostRuntime, store: &mut S) -> anyhow::Result<()> {
-    let mut lent = OnLoan::new(store);
-    put(rt, &mut lent, low(2))?;
-    put(rt, &mut lent, all())?;
-    put(rt, &mut lent, low(1))?;
-    put(rt, &mut lent, all())?;
+// Fills the store while it is lent, and lists what it holds then.
+fn try_store<S: Store>(rt: &impl Print, store: &mut S) -> anyhow::Result<()> {
+    fill(rt, &mut *store)?;
+    // Entries are read by number, and those before the first and after the last are refused.
     for k in 0..4 {
-        list(rt, store, k)?;
-    }
-    Ok(())
-}
-
-fn put<S: Store>(rt: &HostRuntime, store: &mut S, entry: Entry) -> anyhow::Result<()> {
-    match store.put(entry) {
-        Ok(()) => println!(rt; "put")?,
-        Err(why) => refused(rt, why)?,
-    }
-    Ok(())
-}
-
-// Prints entry k as its line.
-fn list<S: Store>(rt: &HostRuntime, store: &S, k: usize) -> anyhow::Result<()> {
-    let mut buffer = [0u8; 64];
-    match store.read(k) {
-        Ok(entry) => match entry.write(store.clocks(), &mut buffer) {
-            Ok(_) => rt.stdout().write_all(line_of(&buffer))?,
+        match line_of(store, k) {
+            Ok(line) => rt.write_all(line.as_bytes())?,
             Err(why) => refused(rt, why)?,
-        },
-        Err(why) => refused(rt, why)?,
+        }
     }
     Ok(())
 }
 
-// The bytes up to the first 0.
-fn line_of(buffer: &[u8]) -> &[u8] {
-    let end = byte_text::parts::up_to(buffer, 0);
-    &buffer[0..end]
+// Puts an entry that speaks of a clock too many, two that fit, and one too many.
+fn fill<S: Store + Drop>(rt: &impl Print, mut store: S) -> anyhow::Result<()> {
+    for entry in [low(2)?, all(), low(1)?, all()] {
+        match store.put(entry) {
+            Ok(()) => println!(rt; "put")?,
+            Err(why) => refused(rt, why)?,
+        }
+    }
+    Ok(())
 }
 
-fn refused(rt: &HostRuntime, why: Refusal) -> anyhow::Result<()> {
-    println!(rt; "refused by {}", why.number())?;
-    Ok(())
+// The line of entry k.
+fn line_of<S: Store>(store: &S, k: usize) -> Result<Line, Refusal> {
+    store.read(k)?.line(store.clocks())
+}
+
+fn refused(rt: &impl Print, why: Refusal) -> io::Result<()> {
+    println!(rt; "refused by {}", why.number())
 }

@@ -12,35 +12,20 @@ pub struct Shown<'a> {
 
 impl fmt::Display for Shown<'_> {
     fn fmt<W: fmt::Write>(&self, f: &mut fmt::Formatter<W>) -> fmt::Result {
-        let mut first = true;
+        let mut comma = "";
+        // By number, since the text names the places. An entry's line says the same, but as bytes of a line of fixed memory.
         for i in 0..=self.clocks {
             for j in 0..=self.clocks {
-                if i == j {
-                    continue;
-                }
-                if let Ok(Some(bound)) = self.zone.bound(i, j) {
-                    if !first {
-                        write!(f, ",")?;
-                    }
-                    first = false;
-                    show_bound(f, i, j, bound)?;
+                if i != j
+                    && let Ok(Some(bound)) = self.zone.bound(i, j)
+                {
+                    let Bound { number, closed } = bound;
+                    let equal = if closed { "=" } else { "" };
+                    write!(f, "{comma}{i}-{j}<{equal}{number}")?;
+                    comma = ",";
                 }
             }
         }
         Ok(())
-    }
-}
-
-fn show_bound<W: fmt::Write>(
-    f: &mut fmt::Formatter<W>,
-    i: usize,
-    j: usize,
-    bound: Bound,
-) -> fmt::Result {
-    let number = bound.number;
-    if bound.closed {
-        write!(f, "{i}-{j}<={number}")
-    } else {
-        write!(f, "{i}-{j}<{number}")
     }
 }

@@ -1,14 +1,12 @@
-use crate::plain_rounds::{Held, PlainPlan, play};
-use crate::text::line_of;
-use anyhow::anyhow;
-use bounds::time::TimeDomain;
+use crate::plain_rounds::{Held, PlainPlan};
+use crate::text::HeldLine;
+use anyhow::{anyhow, ensure};
 use distances::finder::Search;
 use entries::clock_count::ClockCount;
 use entries::entry::Entry;
 use plans::plan::Plan;
 use plans::table::TablePlan;
 use std::alloc::Global;
-use stores::loan::OnLoan;
 use stores::row_store::RowStore;
 use stores::store::Store;
 use zones::zone::Zone;
@@ -19,98 +17,59 @@ const ROUNDS: u64 = 8;
 // How many entries there is room for.
 const ROOM: usize = 400;
 
+// No line of an entry is longer.
+const LONGEST: usize = 1200;
+
 // Plays the plan back by both libraries, and answers how many entries they have; they differ in none.
-pub fn compare(heap: Global, plan: &PlainPlan, clocks: usize) -> anyhow::Result<usize> {
-    let held = play(heap, plan, ROUNDS)?;
-    compare_table(heap, plan.time, plan, clocks, held.as_slice())
+pub fn compare(heap: Global, plan: &PlainPlan) -> anyhow::Result<usize> {
+    let held = plan.play(heap, ROUNDS)?;
+    let clocks = ClockCount::try_from(plan.clocks)?;
+    let mut rows = [Entry {
+        position: 1,
+        round: 0,
+        zone: Zone::all(),
+    }; ROOM];
+    let table = TablePlan::new(plan.time, plan.clocks, plan.rows)?;
+    compare_over(
+        heap,
+        table,
+        &mut RowStore::new(clocks, &mut rows),
+        held.as_slice(),
+    )
 }
 
-fn compare_table<T: TimeDomain + Copy>(
-    heap: Global,
-    time: T,
-    plan: &PlainPlan,
-    clocks: usize,
-    held: &[Held],
-) -> anyhow::Result<usize> {
-    match TablePlan::new(
-        time,
-        clocks,
-        plan.positions,
-        plan.moves,
-        plan.outcomes,
-        plan.goals,
-    ) {
-        Ok(table) => compare_plan(heap, table, held),
-        Err(_) => Err(anyhow!("the rows are no plan")),
-    }
-}
-
-fn compare_plan<P: Plan + Drop>(heap: Global, plan: P, held: &[Held]) -> anyhow::Result<usize> {
-    match ClockCount::new(plan.clocks()) {
-        Ok(clocks) => {
-            let mut rows = [Entry {
-                position: 1,
-                round: 0,
-                zone: Zone::all(),
-            }; ROOM];
-            let count = clocks.get();
-            compare_over(
-                heap,
-                plan,
-                &mut RowStore::new(clocks, &mut rows),
-                held,
-                count,
-            )
-        }
-        Err(_) => Err(anyhow!("no such clock count")),
-    }
-}
-
+// Compares what is held with the entries that a search over the plan and the store has.
 fn compare_over<P: Plan + Drop, S: Store>(
     heap: Global,
     plan: P,
     store: &mut S,
     held: &[Held],
-    clocks: usize,
 ) -> anyhow::Result<usize> {
-    let mut finder = Search::new(plan, OnLoan::new(store));
+    let clocks = store.clocks();
+    let mut finder = Search::new(plan, store);
     for _ in 0..ROUNDS {
         if finder.widen().is_err() {
             break;
         }
     }
-    let mut buffer = [0; 1200];
-    compare_entries(heap, &finder, held, clocks, &mut buffer)
-}
-
-fn compare_entries<P: Plan, S: Store>(
-    heap: Global,
-    finder: &Search<P, S>,
-    held: &[Held],
-    clocks: usize,
-    buffer: &mut [u8],
-) -> anyhow::Result<usize> {
+    let mut buffer = [0; LONGEST];
     for (k, one) in held.iter().enumerate() {
-        let line = line_of(heap, one, clocks)?;
-        match finder.list(k + 1, buffer) {
-            Ok(length) => same(buffer, length, line.as_bytes())?,
-            Err(_) => return Err(anyhow!("the second library has more entries")),
+        let line = HeldLine {
+            held: one,
+            clocks: clocks.get(),
         }
+        .to_string(heap)?;
+        let length = finder
+            .list(k + 1, &mut buffer)
+            .map_err(|_| anyhow!("the second library has more entries"))?;
+        ensure!(
+            buffer.get(..length) == Some(line.as_bytes()),
+            "an entry differs"
+        );
     }
-    if finder.list(held.len() + 1, buffer).is_ok() {
-        return Err(anyhow!("the second library has fewer entries"));
-    }
+    ensure!(
+        finder.list(held.len() + 1, &mut buffer).is_err(),
+        "the second library has fewer entries"
+    );
     Ok(held.len())
-}
-
-fn same(buffer: &[u8], length: usize, line: &[u8]) -> anyhow::Result<()> {
-    match buffer.get(0..length) {
-        Some(listed) => {
-            if listed == line {
-                return Ok(());
-            }
-            Err(anyhow!("an entry differs"))
-        }
-        None => Err(anyhow!("an entry is too long")),
-    }
 }

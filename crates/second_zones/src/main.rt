@@ -15,10 +15,6 @@ use worked::{compare_protocol, compare_small_plan};
 
 // Plays plans back by two zone libraries that share no code, and prints that they agree, entry by entry. A difference ends it with an error.
 fn main(rt: HostRuntime) -> anyhow::Result<()> {
-    run(&rt)
-}
-
-fn run(rt: &HostRuntime) -> anyhow::Result<()> {
     let entries = compare_small_plan(rt.alloc())?;
     println!(rt; "small plan: {entries} entries agree")?;
     let entries = compare_protocol(rt.alloc())?;
@@ -26,8 +22,8 @@ fn run(rt: &HostRuntime) -> anyhow::Result<()> {
     let mut numbers = Numbers::new(20_261_117);
     let mut total: usize = 0;
     for _ in 0..100 {
-        let rows = numbers.plan();
-        let entries = compare(rt.alloc(), &rows.plain(), rows.clocks)?;
+        let plan = numbers.plan();
+        let entries = compare(rt.alloc(), &plan.plain())?;
         total = total.saturating_add(entries);
     }
     println!(rt; "100 random plans: {total} entries agree")?;

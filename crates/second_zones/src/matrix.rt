@@ -1,64 +1,76 @@
-use crate::upper::{Upper, plus, tighter, tightest};
+ghost use Rattle.std.specs.Prelude.{◌<◌};
+
+use crate::upper::Upper;
+use std::array::from_fn;
 
 // Rows and columns: clock 0, the clocks 1 to 8, and one more for an unknown wait.
-pub const SIDE: usize = 10;
+const SIDE: usize = 10;
 
 // What is asked of the differences: cell (i, j) bounds reading i minus reading j.
 #[derive(Clone, Copy)]
 pub struct Matrix {
-    cells: [Upper; 100],
+    cells: [[Upper; SIDE]; SIDE],
 }
 
 impl Matrix {
     // Every reading is 0 or more.
     pub fn open() -> Matrix {
-        let mut cells = [Upper::Free; 100];
-        for j in 0..SIDE {
-            cells[j] = Upper::AtMost(0);
-            cells[SIDE * j + j] = Upper::AtMost(0);
-        }
+        let cells = from_fn(|i| {
+            from_fn(|j| {
+                if i == 0 || i == j {
+                    Upper::ZERO
+                } else {
+                    Upper::Free
+                }
+            })
+        });
         Matrix { cells }
     }
 
-    pub fn at(&self, i: usize, j: usize) -> Upper {
-        if i < SIDE && j < SIDE {
-            self.cells[SIDE * i + j]
-        } else {
-            Upper::Free
-        }
+    // A struct for a place would be made anew at each call, so each of these asks it of its two numbers.
+    pub fn at(&self, i: usize, j: usize) -> Upper
+        requires row { i < SIDE }
+        requires column { j < SIDE }
+    {
+        self.cells[i][j]
     }
 
     // Asks for the bound at (i, j) too.
-    pub fn ask(&mut self, i: usize, j: usize, bound: Upper) {
-        if i < SIDE && j < SIDE {
-            let at = SIDE * i + j;
-            self.cells[at] = tightest(self.cells[at], bound);
-        }
+    pub fn ask(&mut self, i: usize, j: usize, bound: Upper)
+        requires row { i < SIDE }
+        requires column { j < SIDE }
+    {
+        self.cells[i][j] = bound.min(self.cells[i][j]);
     }
 
     // Lets go of the bound at (i, j).
-    pub fn forget(&mut self, i: usize, j: usize) {
-        if i < SIDE && j < SIDE {
-            self.cells[SIDE * i + j] = Upper::Free;
-        }
+    pub fn forget(&mut self, i: usize, j: usize)
+        requires row { i < SIDE }
+        requires column { j < SIDE }
+    {
+        self.cells[i][j] = Upper::Free;
     }
 
     // Every bound that follows from the others, by all ways between all pairs; none where they contradict each other.
     pub fn closed(&self) -> Option<Matrix> {
         let mut next = *self;
+        // Each step names three cells of the same matrix, so it goes by their numbers.
         for k in 0..SIDE {
             for i in 0..SIDE {
                 for j in 0..SIDE {
-                    let way = plus(next.at(i, k), next.at(k, j));
-                    next.ask(i, j, way);
+                    next.ask(i, j, next.at(i, k) + next.at(k, j));
                 }
             }
         }
-        for i in 0..SIDE {
-            if tighter(next.at(i, i), Upper::AtMost(0)) {
-                return None;
-            }
+        if (0..SIDE).any(|i| next.at(i, i) < Upper::ZERO) {
+            return None;
         }
         Some(next)
+    }
+
+    // Whether every state of this one lies in the other; both follow from their bounds.
+    pub fn is_inside(&self, other: &Matrix) -> bool {
+        let pairs = self.cells.as_flattened().iter();
+        pairs.zip(other.cells.as_flattened()).all(|(x, y)| x <= y)
     }
 }

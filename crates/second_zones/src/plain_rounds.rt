@@ -1,9 +1,9 @@
 use crate::matrix::Matrix;
-use crate::plain::{before_reset, earlier, inside};
-use crate::upper::{Upper, in_ticks};
-use bounds::bound::Bound;
+use crate::plain::{before_reset, earlier};
+use crate::upper::Upper;
 use bounds::time::PlanTime;
-use plans::rows::{Goal, Move, Outcome, Position};
+use plans::lent_rows::Rows;
+use plans::rows::{Goal, Outcome};
 use std::alloc::{AllocError, Global};
 use zones::boxes::ClockBox;
 
@@ -15,142 +15,120 @@ pub struct Held {
     pub matrix: Matrix,
 }
 
-// The rows of a plan.
+impl Held {
+    // Whether all of it is held by the other.
+    fn is_inside(&self, other: &Held) -> bool {
+        self.position == other.position && self.matrix.is_inside(&other.matrix)
+    }
+}
+
+// A plan in rows, with the time and the clocks that they are for.
 #[derive(Clone, Copy)]
 pub struct PlainPlan<'a> {
     pub time: PlanTime,
-    pub positions: &'a [Position],
-    pub moves: &'a [Move],
-    pub outcomes: &'a [Outcome],
-    pub goals: &'a [Goal],
+    pub clocks: usize,
+    pub rows: Rows<'a>,
 }
 
-// Everything that is held once a round adds nothing, or after so many rounds.
-pub fn play(heap: Global, plan: &PlainPlan, most: u64) -> Result<Vec<Held>, AllocError> {
-    let mut held = Vec::new(heap);
-    for goal in plan.goals {
-        if let Some(matrix) = at_goal(plan, goal) {
-            keep(&mut held, goal.position, 0, matrix)?;
+impl PlainPlan<'_> {
+    // Everything that is held once a round adds nothing, or after so many rounds.
+    pub fn play(&self, heap: Global, most: u64) -> Result<Vec<Held>, AllocError> {
+        let mut held = Vec::new(heap);
+        for goal in self.rows.goals {
+            if let Some(start) = self.at_goal(goal) {
+                keep(&mut held, start)?;
+            }
         }
-    }
-    for round in 1..most {
-        let before = held.len();
-        advance(plan, &mut held, round)?;
-        if held.len() == before {
-            return Ok(held);
+        for round in 1..most {
+            let before = held.len();
+            self.advance(heap, &mut held, round - 1)?;
+            if held.len() == before {
+                break;
+            }
         }
+        Ok(held)
     }
-    Ok(held)
-}
 
-// One round: over everything that the round before held, by every outcome that leads there.
-fn advance(plan: &PlainPlan, held: &mut Vec<Held>, round: u64) -> Result<(), AllocError> {
-    let before = held.len();
-    for k in 0..before {
-        if let Some(last) = held.get(k).copied() {
-            if last.round.saturating_add(1) == round {
-                cross(plan, held, &last, round)?;
+    // The next round: over everything that the last one held, by every outcome that leads there.
+    fn advance(&self, heap: Global, held: &mut Vec<Held>, last: u64) -> Result<(), AllocError> {
+        let of_last = held.iter().filter(|one| one.round == last);
+        let reached: Vec<Held> = of_last.copied().collect(heap)?;
+        for one in &reached {
+            for outcome in self.rows.outcomes {
+                if let Some(start) = self.over(outcome, one) {
+                    keep(held, start)?;
+                }
+            }
+        }
+        Ok(())
+    }
+
+    // The states from which a wait leads to the goal.
+    fn at_goal(&self, goal: &Goal) -> Option<Held> {
+        let invariant = self.invariant(goal.position)?;
+        let mut matrix = Matrix::open();
+        self.ask_box(&mut matrix, &invariant);
+        self.ask_box(&mut matrix, &goal.area);
+        Some(Held {
+            position: goal.position,
+            round: 0,
+            matrix: self.waited(&matrix, &invariant)?,
+        })
+    }
+
+    // The states from which a wait and then the outcome lead into what is held, if the outcome can lead to its position.
+    fn over(&self, outcome: &Outcome, held: &Held) -> Option<Held> {
+        if outcome.chance == 0 || outcome.target != held.position {
+            return None;
+        }
+        let step = self.rows.moves.get(outcome.cause.checked_sub(1)?)?;
+        let invariant = self.invariant(step.source)?;
+        let mut matrix = before_reset(&held.matrix, &outcome.resets)?;
+        self.ask_box(&mut matrix, &step.guard);
+        self.ask_box(&mut matrix, &invariant);
+        Some(Held {
+            position: step.source,
+            round: held.round.saturating_add(1),
+            matrix: self.waited(&matrix, &invariant)?,
+        })
+    }
+
+    // The states from which a wait that keeps to the invariant leads into the matrix.
+    fn waited(&self, matrix: &Matrix, invariant: &ClockBox) -> Option<Matrix> {
+        let mut before = earlier(&matrix.closed()?)?;
+        self.ask_box(&mut before, invariant);
+        before.closed()
+    }
+
+    fn invariant(&self, position: usize) -> Option<ClockBox> {
+        let found = self.rows.positions.get(position.checked_sub(1)?)?;
+        Some(found.invariant)
+    }
+
+    fn ask_box(&self, matrix: &mut Matrix, area: &ClockBox) {
+        for (k, side) in area.sides.iter().enumerate() {
+            if let Some(lower) = side.lower {
+                matrix.ask(0, k + 1, self.taken(Upper::from(lower).turned()));
+            }
+            if let Some(upper) = side.upper {
+                matrix.ask(k + 1, 0, self.taken(Upper::from(upper)));
             }
         }
     }
-    Ok(())
+
+    // The bound, as the plan's time has it.
+    fn taken(&self, bound: Upper) -> Upper {
+        match self.time {
+            PlanTime::Cycle => bound.in_ticks(),
+            PlanTime::Hand => bound,
+        }
+    }
 }
 
-fn cross(
-    plan: &PlainPlan,
-    held: &mut Vec<Held>,
-    last: &Held,
-    round: u64,
-) -> Result<(), AllocError> {
-    for outcome in plan.outcomes {
-        if outcome.chance >= 1 && outcome.target == last.position {
-            if let Some((position, matrix)) = over(plan, outcome, &last.matrix) {
-                keep(held, position, round, matrix)?;
-            }
-        }
+// Keeps it, unless one that is held has all of it.
+fn keep(held: &mut Vec<Held>, new: Held) -> Result<(), AllocError> {
+    if !held.iter().any(|one| new.is_inside(one)) {
+        held.push(new)?;
     }
     Ok(())
-}
-
-// Keeps the matrix, unless one that is held at its position has it inside.
-fn keep(
-    held: &mut Vec<Held>,
-    position: usize,
-    round: u64,
-    matrix: Matrix,
-) -> Result<(), AllocError> {
-    for one in held.iter() {
-        if one.position == position && inside(&matrix, &one.matrix) {
-            return Ok(());
-        }
-    }
-    held.push(Held {
-        position,
-        round,
-        matrix,
-    })?;
-    Ok(())
-}
-
-// The states from which a wait leads to the goal.
-fn at_goal(plan: &PlainPlan, goal: &Goal) -> Option<Matrix> {
-    let mut matrix = Matrix::open();
-    let invariant = invariant_of(plan, goal.position)?;
-    ask_box(plan.time, &mut matrix, &invariant);
-    ask_box(plan.time, &mut matrix, &goal.area);
-    waited(plan, &matrix.closed()?, &invariant)
-}
-
-// The position and the states from which a wait and then the outcome lead into the matrix.
-fn over(plan: &PlainPlan, outcome: &Outcome, matrix: &Matrix) -> Option<(usize, Matrix)> {
-    let from = outcome.cause.checked_sub(1)?;
-    let step = plan.moves.get(from).copied()?;
-    let invariant = invariant_of(plan, step.source)?;
-    let mut before = before_reset(matrix, &outcome.resets)?;
-    ask_box(plan.time, &mut before, &step.guard);
-    ask_box(plan.time, &mut before, &invariant);
-    let start = waited(plan, &before.closed()?, &invariant)?;
-    Some((step.source, start))
-}
-
-fn waited(plan: &PlainPlan, matrix: &Matrix, invariant: &ClockBox) -> Option<Matrix> {
-    let mut before = earlier(matrix)?;
-    ask_box(plan.time, &mut before, invariant);
-    before.closed()
-}
-
-fn invariant_of(plan: &PlainPlan, position: usize) -> Option<ClockBox> {
-    let row = position.checked_sub(1)?;
-    let found = plan.positions.get(row).copied()?;
-    Some(found.invariant)
-}
-
-fn ask_box(time: PlanTime, matrix: &mut Matrix, area: &ClockBox) {
-    for k in 0..8 {
-        let side = area.sides[k];
-        if let Some(lower) = side.lower {
-            matrix.ask(0, k + 1, taken(time, lower, true));
-        }
-        if let Some(upper) = side.upper {
-            matrix.ask(k + 1, 0, taken(time, upper, false));
-        }
-    }
-}
-
-// A bound of a box, turned round where it is a lower one.
-fn taken(time: PlanTime, bound: Bound, lower: bool) -> Upper {
-    let number = if lower {
-        (bound.number as i64).saturating_neg()
-    } else {
-        bound.number as i64
-    };
-    let upper = if bound.closed {
-        Upper::AtMost(number)
-    } else {
-        Upper::Below(number)
-    };
-    match time {
-        PlanTime::Cycle => in_ticks(upper),
-        PlanTime::Hand => upper,
-    }
 }

@@ -1,39 +1,37 @@
+ghost use Rattle.std.specs.Prelude.{◌≤◌};
+
 use crate::plain_rounds::Held;
 use crate::upper::Upper;
-use std::alloc::{AllocError, Global};
+use std::fmt;
 
 // The line of what is held, written from the matrix: `Z`, tab, position, tab, round, tab, bounds, end of line.
-pub fn line_of(heap: Global, held: &Held, clocks: usize) -> Result<String, AllocError> {
-    let position = held.position;
-    let round = held.round;
-    let mut line = format!(in heap; "Z\t{position}\t{round}\t")?;
-    let mut first = true;
-    for i in 0..=clocks {
-        for j in 0..=clocks {
-            if i != j {
-                first = add_bound(heap, &mut line, held.matrix.at(i, j), i, j, first)?;
-            }
-        }
-    }
-    line.push_str("\n")?;
-    Ok(line)
+#[derive(Clone, Copy)]
+pub struct HeldLine<'a> {
+    pub held: &'a Held,
+    pub clocks: usize,
+    ghost few: { clocks ≤ 8 },
 }
 
-// Adds a bound, if there is one, and answers whether none was added yet.
-fn add_bound(
-    heap: Global,
-    line: &mut String,
-    bound: Upper,
-    i: usize,
-    j: usize,
-    first: bool,
-) -> Result<bool, AllocError> {
-    let comma = if first { "" } else { "," };
-    let text = match bound {
-        Upper::Free => return Ok(first),
-        Upper::AtMost(c) => format!(in heap; "{comma}{i}-{j}<={c}")?,
-        Upper::Below(c) => format!(in heap; "{comma}{i}-{j}<{c}")?,
-    };
-    line.push_str(text.as_str())?;
-    Ok(false)
+impl fmt::Display for HeldLine<'_> {
+    fn fmt<W: fmt::Write>(&self, f: &mut fmt::Formatter<W>) -> fmt::Result {
+        let Held {
+            position,
+            round,
+            matrix,
+        } = self.held;
+        write!(f, "Z\t{position}\t{round}\t")?;
+        let mut comma = "";
+        // Written anew, as all of this library, and by number, since the line names the places.
+        for i in 0..=self.clocks {
+            for j in 0..=self.clocks {
+                if i != j
+                    && let Upper::To(c, edge) = matrix.at(i, j)
+                {
+                    write!(f, "{comma}{i}-{j}{edge}{c}")?;
+                    comma = ",";
+                }
+            }
+        }
+        f.write_str("\n")
+    }
 }

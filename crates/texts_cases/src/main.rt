@@ -1,102 +1,81 @@
 #![tactic(auto)]
 
+ghost use Rattle.std.specs.Prelude.{◌+◌, ◌<◌};
+
 use bounds::bound::Bound;
 use bounds::time::PlanTime;
 use grammar::read_written_plan;
 use plans::rows::{Goal, Move, Outcome, Position};
 use std::io;
 use texts::plan_rows::PlanRows;
-use zones::boxes::{ClockBox, Side};
-
-const FREE: Side = Side {
-    lower: None,
-    upper: None,
-};
-
-const ANYWHERE: ClockBox = ClockBox { sides: [FREE; 8] };
 
 // Reads one plan text from each line of standard input, in which `|` stands for a tab and `/` for the end of a line, and prints what came of it:
 // the kind of time, the clock count and the four counts, or the line `E`, number, line. A case that begins with `~` gets few rows: two of each list.
 fn main(rt: HostRuntime) -> anyhow::Result<()> {
-    run(&rt)
-}
-
-fn run(rt: &HostRuntime) -> anyhow::Result<()> {
     for line in rt.lines(rt.alloc()) {
         let line = line?;
-        let mut few = false;
-        let mut text = Vec::new(rt.alloc());
-        for b in line.as_bytes() {
-            match *b {
-                b'~' => few = true,
-                b'|' => text.push(b'\t')?,
-                b'/' => text.push(b'\n')?,
-                other => text.push(other)?,
-            }
-        }
-        if few {
-            answer_over(rt, text.as_slice(), 2, 2, 2, 2)?;
+        let bytes = line.as_bytes();
+        let text: Vec<u8> = bytes
+            .iter()
+            .filter(|b| **b != b'~')
+            .map(|b| meant(*b))
+            .collect(rt.alloc())?;
+        if bytes.contains(&b'~') {
+            answer_over::<2, 2, 2, 2>(&rt, text.as_slice())?;
         } else {
-            answer_over(rt, text.as_slice(), 70, 260, 520, 70)?;
+            answer_over::<70, 260, 520, 70>(&rt, text.as_slice())?;
         }
     }
     Ok(())
 }
 
-fn answer_over(
-    rt: &HostRuntime,
+// The byte that stands in the text for one of the case.
+fn meant(b: u8) -> u8 {
+    match b {
+        b'|' => b'\t',
+        b'/' => b'\n',
+        _ => b,
+    }
+}
+
+// Reads the text into so many positions, moves, outcomes and goals; few enough for their bytes to be counted.
+fn answer_over<const P: usize, const M: usize, const O: usize, const G: usize>(
+    rt: &impl Print,
     text: &[u8],
-    p: usize,
-    m: usize,
-    o: usize,
-    g: usize,
-) -> io::Result<()> {
-    let mut positions = [Position {
-        invariant: ANYWHERE,
-    }; 70];
-    let mut moves = [Move {
-        source: 0,
-        guard: ANYWHERE,
-        sum: 0,
-    }; 260];
-    let mut outcomes = [Outcome {
-        cause: 0,
-        chance: 0,
-        target: 0,
-        resets: [false; 8],
-    }; 520];
-    let mut goals = [Goal {
-        position: 0,
-        area: ANYWHERE,
-    }; 70];
-    let mut rows = PlanRows::over(
-        &mut positions[..p.min(70)],
-        &mut moves[..m.min(260)],
-        &mut outcomes[..o.min(520)],
-        &mut goals[..g.min(70)],
-    );
+) -> io::Result<()>
+    requires { P + M + O + G < 1000 }
+{
+    let mut positions = [Position::default(); P];
+    let mut moves = [Move::default(); M];
+    let mut outcomes = [Outcome::default(); O];
+    let mut goals = [Goal::default(); G];
+    let mut rows = PlanRows::over(&mut positions, &mut moves, &mut outcomes, &mut goals);
     answer(rt, text, &mut rows)
 }
 
-fn answer(rt: &HostRuntime, text: &[u8], rows: &mut PlanRows) -> io::Result<()> {
+fn answer(rt: &impl Print, text: &[u8], rows: &mut PlanRows) -> io::Result<()> {
     match read_written_plan(text, rows) {
         Ok(header) => {
-            let clocks = header.clocks;
+            // Only here is a kind of time printed, so it has no `Display`.
             let kind = match header.time {
                 PlanTime::Cycle => "cycle",
                 PlanTime::Hand => "hand",
             };
-            let positions = rows.positions.len();
-            let moves = rows.moves.len();
-            let outcomes = rows.outcomes.len();
-            let goals = rows.goals.len();
-            println!(rt; "{kind} {clocks}: {positions} {moves} {outcomes} {goals}")?;
+            println!(rt;
+                "{kind} {}: {} {} {} {}",
+                header.clocks,
+                rows.positions.len(),
+                rows.moves.len(),
+                rows.outcomes.len(),
+                rows.goals.len()
+            )?;
             tell(rt, rows)
         }
         Err(fault) => {
             let number = fault.refusal.number();
-            let line = fault.line;
-            let field = fault.field;
+            // A fault of no line, or of no field, is printed with 0.
+            let line = fault.spot.line().unwrap_or(0);
+            let field = fault.spot.field().unwrap_or(0);
             let at = fault.part.at;
             let long = fault.part.bytes.len();
             println!(rt; "E\t{number}\t{line} (field {field}, {long} bytes at {at})")
@@ -105,32 +84,27 @@ fn answer(rt: &HostRuntime, text: &[u8], rows: &mut PlanRows) -> io::Result<()> 
 }
 
 // The bounds of the first position, and the resets of the first outcome.
-fn tell(rt: &HostRuntime, rows: &PlanRows) -> io::Result<()> {
+fn tell(rt: &impl Print, rows: &PlanRows) -> io::Result<()> {
     if let Ok(position) = rows.positions.get(1) {
         for (i, side) in position.invariant.sides.iter().enumerate() {
-            bound(rt, i, ">", side.lower)?;
-            bound(rt, i, "<", side.upper)?;
+            tell_bound(rt, i + 1, ">", side.lower)?;
+            tell_bound(rt, i + 1, "<", side.upper)?;
         }
     }
     if let Ok(outcome) = rows.outcomes.get(1) {
         for (i, reset) in outcome.resets.iter().enumerate() {
             if *reset {
-                let clock = i.saturating_add(1);
-                println!(rt; "  resets {clock}")?;
+                println!(rt; "  resets {}", i + 1)?;
             }
         }
     }
     Ok(())
 }
 
-fn bound(rt: &HostRuntime, i: usize, sign: &str, bound: Option<Bound>) -> io::Result<()> {
-    match bound {
-        None => Ok(()),
-        Some(b) => {
-            let clock = i.saturating_add(1);
-            let number = b.number;
-            let equal = if b.closed { "=" } else { "" };
-            println!(rt; "  {clock}{sign}{equal}{number}")
-        }
-    }
+fn tell_bound(rt: &impl Print, clock: usize, sign: &str, bound: Option<Bound>) -> io::Result<()> {
+    let Some(Bound { number, closed }) = bound else {
+        return Ok(());
+    };
+    let equal = if closed { "=" } else { "" };
+    println!(rt; "  {clock}{sign}{equal}{number}")
 }

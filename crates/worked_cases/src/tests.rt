@@ -12,10 +12,9 @@ const MILLION: Bound = Bound {
 
 // Cuts the zone at each (i, j) by its bound in turn, for as long as some state is left, and tells how the last cut ended.
 fn cut_by_each(zone: &mut Zone, cuts: &[(usize, usize, Bound)]) -> Result<Cut, Refusal> {
-    for (i, j, bound) in cuts {
-        match zone.cut(&HandTime, *i, *j, Some(*bound))? {
-            Cut::Kept => {}
-            Cut::Empty => return Ok(Cut::Empty),
+    for &(i, j, bound) in cuts {
+        if zone.cut(&HandTime, i, j, Some(bound))? == Cut::Empty {
+            return Ok(Cut::Empty);
         }
     }
     Ok(Cut::Kept)
@@ -31,7 +30,7 @@ fn closed_plus_open_is_open(rt: HostRuntime) -> Result<(), Fail> {
 #[test]
 fn two_to_four_back_and_undone(rt: HostRuntime) -> Result<(), Fail> {
     let mut zone = Zone::all();
-    let _ = cut_by_each(
+    cut_by_each(
         &mut zone,
         &[(0, 1, Bound::at_most(-2)), (1, 0, Bound::at_most(4))],
     )?;
