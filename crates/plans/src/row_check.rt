@@ -123,11 +123,14 @@ fn chances_of(outcomes: &[Outcome], k: usize) -> u32
     requires { sum (chances_in k outcomes.now) < 2 ^ 32 }
     ensures { result ≡ sum (chances_in k outcomes.now) }
 {
-    outcomes
-        .iter()
-        .filter(|o| o.cause == k)
-        .map(|o| o.chance)
-        .sum()
+    // By a loop: with a chain of `filter`, `map` and `sum` the row check took half as long again.
+    let mut sum = 0;
+    for o in outcomes {
+        if o.cause == k {
+            sum += o.chance;
+        }
+    }
+    sum
 }
 
 // Refuses move k, from 1, by Chance.

@@ -49,7 +49,11 @@ impl Zone {
     pub fn of_bounds(bounds: &[Option<Bound>; 81]) -> Result<Zone, Refusal>
         ensures { MatchResult result (λ z. Given bounds.now z.codes) (λ e. (e ≡ refused.Number) × NoZone bounds.now) }
     {
-        let codes = bounds.try_map(given_code)?;
+        // By a loop: `try_map` was proved too, but took 1.6 times as long.
+        let mut codes = [NONE; 81];
+        for (p, code) in codes.iter_mut().enumerate() {
+            *code = given_code(bounds[p])?;
+        }
         if !all_direct(&codes) {
             return Err(Refusal::Number);
         }
