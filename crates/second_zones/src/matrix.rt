@@ -1,5 +1,3 @@
-ghost use Rattle.std.specs.Prelude.{◌<◌};
-
 use crate::upper::Upper;
 use std::array::from_fn;
 
@@ -27,28 +25,27 @@ impl Matrix {
         Matrix { cells }
     }
 
-    // A struct for a place would be made anew at each call, so each of these asks it of its two numbers.
-    pub fn at(&self, i: usize, j: usize) -> Upper
-        requires row { i < SIDE }
-        requires column { j < SIDE }
-    {
-        self.cells[i][j]
+    // The bound at (i, j); none where there is no such place.
+    pub fn at(&self, i: usize, j: usize) -> Upper {
+        if i < SIDE && j < SIDE {
+            self.cells[i][j]
+        } else {
+            Upper::Free
+        }
     }
 
-    // Asks for the bound at (i, j) too.
-    pub fn ask(&mut self, i: usize, j: usize, bound: Upper)
-        requires row { i < SIDE }
-        requires column { j < SIDE }
-    {
-        self.cells[i][j] = bound.min(self.cells[i][j]);
+    // Asks for the bound at (i, j) too, if there is such a place.
+    pub fn ask(&mut self, i: usize, j: usize, bound: Upper) {
+        if i < SIDE && j < SIDE {
+            self.cells[i][j] = self.cells[i][j].tightest(bound);
+        }
     }
 
-    // Lets go of the bound at (i, j).
-    pub fn forget(&mut self, i: usize, j: usize)
-        requires row { i < SIDE }
-        requires column { j < SIDE }
-    {
-        self.cells[i][j] = Upper::Free;
+    // Lets go of the bound at (i, j), if there is such a place.
+    pub fn forget(&mut self, i: usize, j: usize) {
+        if i < SIDE && j < SIDE {
+            self.cells[i][j] = Upper::Free;
+        }
     }
 
     // Every bound that follows from the others, by all ways between all pairs; none where they contradict each other.
@@ -62,7 +59,7 @@ impl Matrix {
                 }
             }
         }
-        if (0..SIDE).any(|i| next.at(i, i) < Upper::ZERO) {
+        if (0..SIDE).any(|i| next.at(i, i).is_tighter(Upper::ZERO)) {
             return None;
         }
         Some(next)
@@ -71,6 +68,8 @@ impl Matrix {
     // Whether every state of this one lies in the other; both follow from their bounds.
     pub fn is_inside(&self, other: &Matrix) -> bool {
         let pairs = self.cells.as_flattened().iter();
-        pairs.zip(other.cells.as_flattened()).all(|(x, y)| x <= y)
+        pairs
+            .zip(other.cells.as_flattened())
+            .all(|(x, y)| !y.is_tighter(*x))
     }
 }

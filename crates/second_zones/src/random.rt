@@ -46,17 +46,16 @@ impl Numbers {
         Numbers { last: seed }
     }
 
-    // The next number below the limit.
-    fn next(&mut self, limit: u32) -> u32
-        requires { 0 < limit }
-        ensures { result < limit }
+    // The next number below the limit, or 0 where that is 0.
+    pub fn next(&mut self, limit: u32) -> u32
+        ensures { 0 < limit → result < limit }
     {
         self.last = self
             .last
             .wrapping_mul(6_364_136_223_846_793_005)
             .wrapping_add(1_442_695_040_888_963_407);
         let high = ((self.last >> 33) & 0x7fff_ffff) as u32;
-        high % limit
+        if limit == 0 { 0 } else { high % limit }
     }
 
     fn coin(&mut self) -> bool {
@@ -95,9 +94,7 @@ impl Numbers {
         from_fn(|k| k < clocks && self.next(3) == 0)
     }
 
-    fn name(&mut self, count: u32) -> usize
-        requires { 0 < count }
-    {
+    fn name(&mut self, count: u32) -> usize {
         1 + self.next(count) as usize
     }
 

@@ -1,5 +1,3 @@
-ghost use Rattle.std.specs.Prelude.{◌≤◌};
-
 use crate::plain_rounds::Held;
 use crate::upper::Upper;
 use std::fmt;
@@ -9,7 +7,6 @@ use std::fmt;
 pub struct HeldLine<'a> {
     pub held: &'a Held,
     pub clocks: usize,
-    ghost few: { clocks ≤ 8 },
 }
 
 impl fmt::Display for HeldLine<'_> {
@@ -24,10 +21,9 @@ impl fmt::Display for HeldLine<'_> {
         // Written anew, as all of this library, and by number, since the line names the places.
         for i in 0..=self.clocks {
             for j in 0..=self.clocks {
-                if i != j
-                    && let Upper::To(c, edge) = matrix.at(i, j)
-                {
-                    write!(f, "{comma}{i}-{j}{edge}{c}")?;
+                let bound = matrix.at(i, j);
+                if i != j && bound != Upper::Free {
+                    write!(f, "{comma}{i}-{j}{bound}")?;
                     comma = ",";
                 }
             }

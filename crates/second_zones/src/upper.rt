@@ -2,28 +2,38 @@ use bounds::bound::Bound;
 use std::fmt;
 use std::ops::Add;
 
-// How a bound ends: `< c`, or `<= c`, which allows more.
-#[derive(Clone, Copy, PartialEq, Eq, PartialOrd, Ord, Debug)]
-pub enum Edge {
-    Below,
-    AtMost,
-}
-
-// An upper bound on a difference: a number with its edge, or none. It is a type of its own, since this library shares no representation
-// with the first one. The order is by what a bound allows, the tightest first.
-#[derive(Clone, Copy, PartialEq, Eq, PartialOrd, Ord, Debug)]
+// An upper bound on a difference: `< c`, `<= c`, which allows more, or none. It is a type of its own, since this library shares no representation
+// with the first one. Its order is written: the derived one of a number with an edge beside it was tried, but a matrix took half as much room again.
+#[derive(Clone, Copy, PartialEq, Eq, Debug)]
 pub enum Upper {
-    To(i64, Edge),
+    Below(i64),
+    AtMost(i64),
     Free,
 }
 
 impl Upper {
-    pub const ZERO: Upper = Upper::To(0, Edge::AtMost);
+    pub const ZERO: Upper = Upper::AtMost(0);
+
+    // Whether this one allows less than the other.
+    pub fn is_tighter(self, other: Upper) -> bool {
+        match (self, other) {
+            (Upper::Free, _) => false,
+            (_, Upper::Free) => true,
+            (Upper::Below(x), Upper::AtMost(y)) => x <= y,
+            (Upper::Below(x) | Upper::AtMost(x), Upper::Below(y) | Upper::AtMost(y)) => x < y,
+        }
+    }
+
+    // The one of the two that allows less.
+    pub fn tightest(self, other: Upper) -> Upper {
+        if other.is_tighter(self) { other } else { self }
+    }
 
     // The upper bound that a lower bound is, once the difference is turned round.
     pub fn turned(self) -> Upper {
         match self {
-            Upper::To(c, edge) => Upper::To(c.saturating_neg(), edge),
+            Upper::Below(c) => Upper::Below(c.saturating_neg()),
+            Upper::AtMost(c) => Upper::AtMost(c.saturating_neg()),
             Upper::Free => Upper::Free,
         }
     }
@@ -31,7 +41,7 @@ impl Upper {
     // `< c` in whole ticks is `<= c - 1`.
     pub fn in_ticks(self) -> Upper {
         match self {
-            Upper::To(c, Edge::Below) => Upper::To(c.saturating_sub(1), Edge::AtMost),
+            Upper::Below(c) => Upper::AtMost(c.saturating_sub(1)),
             _ => self,
         }
     }
@@ -43,7 +53,10 @@ impl Add for Upper {
 
     fn add(self, other: Upper) -> Upper {
         match (self, other) {
-            (Upper::To(x, a), Upper::To(y, b)) => Upper::To(x.saturating_add(y), a.min(b)),
+            (Upper::AtMost(x), Upper::AtMost(y)) => Upper::AtMost(x.saturating_add(y)),
+            (Upper::Below(x) | Upper::AtMost(x), Upper::Below(y) | Upper::AtMost(y)) => {
+                Upper::Below(x.saturating_add(y))
+            }
             _ => Upper::Free,
         }
     }
@@ -51,20 +64,22 @@ impl Add for Upper {
 
 impl From<Bound> for Upper {
     fn from(bound: Bound) -> Upper {
-        let edge = if bound.closed {
-            Edge::AtMost
+        let number = i64::from(bound.number);
+        if bound.closed {
+            Upper::AtMost(number)
         } else {
-            Edge::Below
-        };
-        Upper::To(i64::from(bound.number), edge)
+            Upper::Below(number)
+        }
     }
 }
 
-impl fmt::Display for Edge {
+// As it stands in a line; one that is none writes nothing.
+impl fmt::Display for Upper {
     fn fmt<W: fmt::Write>(&self, f: &mut fmt::Formatter<W>) -> fmt::Result {
-        match self {
-            Edge::Below => write!(f, "<"),
-            Edge::AtMost => write!(f, "<="),
+        match *self {
+            Upper::Below(c) => write!(f, "<{c}"),
+            Upper::AtMost(c) => write!(f, "<={c}"),
+            Upper::Free => Ok(()),
         }
     }
 }
