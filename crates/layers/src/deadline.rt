@@ -9,7 +9,7 @@ use bounds::bound::Bound;
 use bounds::refusal::Refusal;
 use plans::plan::Plan;
 use plans::rows::{Goal, Move, Outcome, Position};
-use zones::boxes::Side;
+use zones::boxes::{ClockBox, Side};
 
 // A deadline over any plan: one clock more, that nothing resets, and at most `ticks` ticks on it in every goal.
 #[derive(Drop)]
@@ -117,16 +117,21 @@ impl<P: Plan> Plan for Deadline<P> {
     }
 }
 
-// The goal with the deadline on the clock after the first `clocks`.
-fn timed_goal(mut g: Goal, ticks: u32, clocks: usize) -> Goal
+// The goal with the deadline on the clock after the first `clocks`. The goal is built and not written into, so that a caller who reads its position alone has no box copied.
+fn timed_goal(g: Goal, ticks: u32, clocks: usize) -> Goal
     requires { ticks ≤ 1000000 }
     ensures { result ≡ (if nat_lt clocks 8 then timed ticks clocks g else g) }
 {
-    if clocks < 8 {
-        g.area.sides[clocks] = Side {
-            upper: Some(Bound::at_most(ticks as i32)),
-            ..Side::default()
-        };
+    if clocks >= 8 {
+        return g;
     }
-    g
+    let mut sides = g.area.sides;
+    sides[clocks] = Side {
+        upper: Some(Bound::at_most(ticks as i32)),
+        ..Side::default()
+    };
+    Goal {
+        position: g.position,
+        area: ClockBox { sides },
+    }
 }

@@ -1,18 +1,16 @@
 -- Boxes of a plan as zones take them: readings are whole numbers there, and clock 0 reads 0
-use Rattle.std.proofs.Common.{◌≡◌, ℕ, suc, ◌<◌, ℤ, pos, ◌-ℤ◌, Some, None, Option, List, length, slice_index_or, sym, subst, arith}
-use native.Mathlib.Decide.{dec_lt}
+use Rattle.std.proofs.Common.{◌≡◌, ℕ, suc, ◌<◌, ℤ, pos, ◌-ℤ◌, Some, None, Option, sym, subst, arith}
 use borrow.Author.Differences.{ints}
-use Rattle.std.proofs.lemmas.List.{get_or_past}
 use Rattle.bounds.specs.declared.bound.Bound.{Bound}
 use Rattle.bounds.specs.Bounds.{Meets}
 use Rattle.bounds.specs.Sums.{bound_of}
 use Rattle.bounds.specs.Logic.{Iff}
 use Rattle.zones.specs.declared.boxes.Side.{Side}
 use Rattle.zones.specs.declared.boxes.ClockBox.{ClockBox}
-use Rattle.zones.specs.Boxes.{Ordinary, Plain, no_side, turned}
+use Rattle.zones.specs.Boxes.{Ordinary, Plain, turned}
 use Rattle.zones.specs.Boxes.{InBox as ZoneBox}
 use Rattle.plans.specs.Boxes.{InBox, InRange, BoxOf, side}
-use Rattle.plans.specs.BoxChecks.{Numbers, SideInRange}
+use Rattle.plans.specs.BoxChecks.{SideInRange}
 
 ordinary : (b : Option Bound) → InRange b → Ordinary (bound_of b)
 unfolding Ordinary
@@ -24,20 +22,12 @@ unfolding Ordinary
 in_range None h = tt
 in_range (Some b) h = h
 
--- numbers that zones take are those that plans take
-pub numbers_of : (ss : List Side) → length ss ≡ 8 → Plain ss → Numbers ss
-numbers_of ss e p i h =
-    let q = p i (subst (λ n. i < n) e h) in
-    (in_range (slice_index_or ss i no_side).lower q.0, in_range (slice_index_or ss i no_side).upper q.1)
-
-ordinary_side : (s : Side) → SideInRange s → Ordinary (bound_of s.lower) × Ordinary (bound_of s.upper)
+-- the numbers of a side that zones take are those that plans take
+pub ordinary_side : (s : Side) → SideInRange s → Ordinary (bound_of s.lower) × Ordinary (bound_of s.upper)
 ordinary_side s h = (ordinary s.lower h.0, ordinary s.upper h.1)
 
-pub plain_numbers : (ss : List Side) → Numbers ss → Plain ss
-plain_numbers ss f k h = elim (dec_lt k (length ss)) [
-  | yes y ↦ ordinary_side (slice_index_or ss k no_side) (f k y)
-  | no z ↦ ordinary_side (slice_index_or ss k no_side) (subst SideInRange (sym (get_or_past ss k no_side (omega (arith, z)))) (tt, tt))
-]
+pub side_in_range : (s : Side) → Ordinary (bound_of s.lower) × Ordinary (bound_of s.upper) → SideInRange s
+side_in_range s h = (in_range s.lower h.0, in_range s.upper h.1)
 
 pub plain_of : (n : ℕ) (b : ClockBox) → BoxOf n b → Plain b.sides
 plain_of n b ok k h = (ordinary (side b k).lower (ok.low k h), ordinary (side b k).upper (ok.high k h))

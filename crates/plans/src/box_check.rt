@@ -1,6 +1,6 @@
 ghost use Rattle.std.specs.Prelude.{◌≡◌, length, Decides, MatchResult};
 ghost use Rattle.plans.specs.Boxes.{blank, BoxOf};
-ghost use Rattle.plans.specs.BoxChecks.{Free, Wrong, AllBoxes, FirstWrong};
+ghost use Rattle.plans.specs.BoxChecks.{SideInRange, Numbers, Free, Wrong, AllBoxes, FirstWrong};
 
 use bounds::refusal::Refusal;
 use zones::boxes::{ClockBox, Side};
@@ -10,6 +10,20 @@ fn is_blank(side: &Side) -> bool
     ensures { result ≡ blank side.now }
 {
     side.lower.is_none() && side.upper.is_none()
+}
+
+// Whether both numbers of a side are in range.
+fn side_in_range(side: &Side) -> bool
+    ensures { Decides result (SideInRange side.now) }
+{
+    side.is_ordinary()
+}
+
+// Whether every number is in range.
+fn numbers_fit(sides: &[Side]) -> bool
+    ensures { Decides result (Numbers sides.now) }
+{
+    sides.iter().all(side_in_range)
 }
 
 // Whether nothing is asked of a clock above the count.
@@ -23,7 +37,7 @@ fn clocks_fit(sides: &[Side], clocks: usize) -> bool
 pub fn check_box(b: &ClockBox, clocks: usize) -> Result<(), Refusal>
     ensures { MatchResult result (λ _. BoxOf clocks b.now) (λ e. Wrong clocks b.now e) }
 {
-    if !b.is_plain() {
+    if !numbers_fit(&b.sides) {
         return Err(Refusal::Number);
     }
     if !clocks_fit(&b.sides, clocks) {

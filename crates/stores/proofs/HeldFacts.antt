@@ -2,7 +2,7 @@
 use Rattle.std.proofs.Common.{◌≡◌, ℕ, ◌+◌, ◌≤◌, List, [], ◌∷◌, ◌++◌, length, take, drop, sym, refl, ap, ◌∙◌, subst, append_assoc, append-nil, arith, length-append}
 use mathlib.Core.Logic.{∥∥₁_elim, ∥∥₁_map}
 use mathlib.Core.List.{is_set}
-use Rattle.std.proofs.lemmas.List.{length-take-le, take_at, drop-drop}
+use Rattle.std.proofs.lemmas.List.{length-take-le, take_at}
 use Rattle.byte_text.specs.Lines.{written}
 use Rattle.byte_text.proofs.Writing.{length_written}
 use native.Mathlib.Bridge.{le_prop}
@@ -57,10 +57,6 @@ count_is n c bs k = ∥∥₁_elim (held_holds n c bs k) (hedberg ℕ_discrete _
 
 pub count_few : (n c : ℕ) (bs : List ℕ) → ∥ Kept n c bs ∥₁ → c ≤ length bs
 count_few n c bs k = ∥∥₁_elim (held_holds n c bs k) le_prop (λ h. omega (arith, h.long, ap length h.text, lines_long n (held n c bs k)))
-
--- a part of the bytes that is another now
-pub part_written : (bs l ys : List ℕ) (u k : ℕ) → ys ≡ l → k ≡ length l → take u bs ++ (ys ++ drop k (drop u bs)) ≡ written bs u l
-part_written bs l ys u k p q = (λ i. take u bs ++ (p i ++ drop (q i) (drop u bs))) ∙ ap (λ (z : List ℕ). take u bs ++ (l ++ z)) (drop-drop (length l) u bs)
 
 -- bytes written behind the first u
 module _ (bs cs l : List ℕ) (u v : ℕ) (is : cs ≡ written bs u l) (same : v ≡ u) (fits : u + length l ≤ length bs) where

@@ -22,7 +22,7 @@ pub struct ClockBox {
 
 impl Side {
     // Whether every number of the side is from 0 to 1,000,000.
-    fn is_ordinary(&self) -> bool
+    pub fn is_ordinary(&self) -> bool
         ensures { Iff (result ≡ true) (Ordinary (bound_of self.now.lower) × Ordinary (bound_of self.now.upper)) }
     {
         is_from_to(self.lower, 0, 1_000_000) && is_from_to(self.upper, 0, 1_000_000)

@@ -1,4 +1,5 @@
-ghost use Rattle.std.specs.Prelude.{◌≡◌, length};
+ghost use Rattle.std.specs.Prelude.{◌≡◌, ◌+◌, ◌≤◌, length};
+ghost use Rattle.byte_text.specs.Lines.{written};
 ghost use Rattle.entries.specs.Lines.{line};
 ghost use Rattle.stores.specs.Puts.{PutSays};
 ghost use Rattle.stores.specs.Rows.{left};
@@ -25,7 +26,7 @@ impl<'a> LineStore<'a> {
             return Err(Refusal::Full);
         }
         let end = self.used + need;
-        self.bytes[self.used..end].copy_from_slice(text.as_bytes());
+        write_at(self.bytes, self.used, text.as_bytes());
         self.used = end;
         self.count += 1;
         Ok(())
@@ -40,4 +41,12 @@ impl<'a> LineStore<'a> {
             .min(1_000_000_000)
             .saturating_sub(self.used)
     }
+}
+
+// Writes a text over the bytes from `at` on, and leaves the others as they are.
+fn write_at(bytes: &mut [u8], at: usize, text: &[u8])
+    requires { at + length text.now ≤ length bytes.old }
+    ensures { bytes.new ≡ written bytes.old at text.now }
+{
+    bytes[at..at + text.len()].copy_from_slice(text);
 }

@@ -1,11 +1,10 @@
-use Rattle.std.proofs.Common.{◌≡◌, ℕ, length, refl, ap, inl, arith, rules}
+use Rattle.std.proofs.Common.{◌≡◌, ℕ, length, ap, arith, rules}
 use native.Mathlib.Decide.{dec_lt}
 use Rattle.std.proofs.lemmas.List.{get_or_past}
 use Rattle.zones.specs.declared.boxes.ClockBox.{ClockBox}
 use Rattle.zones.specs.Boxes.{no_side}
 use Rattle.plans.specs.Boxes.{blank, BoxOf}
 use Rattle.plans.specs.BoxChecks.{Numbers, Free}
-use Rattle.plans.proofs.ZoneBoxes.{numbers_of, plain_numbers}
 use Rattle.plans.proofs.box_check.check_box.Goals as goal
 
 box_of : (n : ℕ) (b : ClockBox) → length b.sides ≡ 8 → Numbers b.sides → Free n b.sides → BoxOf n b
@@ -16,18 +15,7 @@ box_of n b e h f = record {
   high = λ i l. (h i (omega arith)).1;
 }
 
-pub returns-then-not-is_plain : goal.returns-then-not-is_plain
-returns-then-not-is_plain c =
-    inl (λ ns. let q = c.is_plain.ensures.1 (plain_numbers c.args.b.now.sides ns) in search rules, refl)
-
-pub returns-then-not-clocks_fit : goal.returns-then-not-clocks_fit
-returns-then-not-clocks_fit c =
-    let e : length c.args.b.now.sides ≡ 8 = search rules in
-    let ns = numbers_of c.args.b.now.sides e (c.is_plain.ensures.0 c.if-not-is_plain.false) in
-    search rules
-
 pub returns : goal.returns
 returns c =
     let e : length c.args.b.now.sides ≡ 8 = search rules in
-    let ns = numbers_of c.args.b.now.sides e (c.is_plain.ensures.0 c.if-not-is_plain.false) in
-    box_of c.args.clocks c.args.b.now e ns (c.clocks_fit.ensures.0 c.if-not-clocks_fit.false)
+    box_of c.args.clocks c.args.b.now e (c.numbers_fit.ensures.0 c.if-not-numbers_fit.false) (c.clocks_fit.ensures.0 c.if-not-clocks_fit.false)

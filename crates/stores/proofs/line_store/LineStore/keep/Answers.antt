@@ -1,8 +1,9 @@
-use Rattle.std.proofs.Common.{◌≡◌, ℕ, ◌+◌, ◌-◌, ◌≤◌, List, ◌++◌, length, take, sym, refl, ap, ◌∙◌, subst, arith, length-take, rules}
+use Rattle.std.proofs.Common.{◌≡◌, ℕ, ◌+◌, ◌≤◌, List, ◌++◌, length, take, sym, refl, ap, ◌∙◌, subst, arith, length-take, rules}
+use Rattle.byte_text.specs.Lines.{written}
 use Rattle.entries.specs.Lines.{line}
 use Rattle.entries.proofs.Items.{length_line}
 use Rattle.stores.specs.Held.{Kept}
-use Rattle.stores.proofs.HeldFacts.{part_written, kept_more, held_more, count_few, front_kept, front_more, length_kept}
+use Rattle.stores.proofs.HeldFacts.{kept_more, held_more, count_few, front_kept, front_more, length_kept}
 use Rattle.stores.proofs.line_store.LineStore.keep.Goals as goal
 
 pub overflow_add-self : goal.overflow_add-self
@@ -18,8 +19,7 @@ invariant_of-self c =
     let n = s.clocks.count in
     let l = line n c.args.entry in
     let m : c.len-need.result ≡ length l = c.len-need.ensures.value ∙ ap length c.in_ok-text.ensures in
-    let k : s.used + c.len-need.result - s.used ≡ length l = omega (arith, m) in
-    let is = part_written s.bytes.now l c.copy_from_slice.new.self s.used (s.used + c.len-need.result - s.used) (c.copy_from_slice.ensures.after ∙ c.as_bytes.ensures ∙ c.in_ok-text.ensures) k in
+    let is = c.write_at.ensures ∙ ap (written s.bytes.now s.used) (c.as_bytes.ensures ∙ c.in_ok-text.ensures) in
     let fits : s.used + length l ≤ length s.bytes.now = omega (arith, m, c.room.ensures, s.fits) in
     let front = front_kept s.bytes.now _ l s.used s.used is refl fits in
     let more = front_more s.bytes.now _ l s.used s.used is refl fits c.len-need.result m in
@@ -34,8 +34,7 @@ returns-clause-says c =
     let n = s.clocks.count in
     let l = line n c.args.entry in
     let m : c.len-need.result ≡ length l = c.len-need.ensures.value ∙ ap length c.in_ok-text.ensures in
-    let k : s.used + c.len-need.result - s.used ≡ length l = omega (arith, m) in
-    let is = part_written s.bytes.now l c.copy_from_slice.new.self s.used (s.used + c.len-need.result - s.used) (c.copy_from_slice.ensures.after ∙ c.as_bytes.ensures ∙ c.in_ok-text.ensures) k in
+    let is = c.write_at.ensures ∙ ap (written s.bytes.now s.used) (c.as_bytes.ensures ∙ c.in_ok-text.ensures) in
     let fits : s.used + length l ≤ length s.bytes.now = omega (arith, m, c.room.ensures, s.fits) in
     let front = front_kept s.bytes.now _ l s.used s.used is refl fits in
     let more = front_more s.bytes.now _ l s.used s.used is refl fits c.len-need.result m in
