@@ -2,13 +2,14 @@ use bounds::bound::Bound;
 use std::fmt;
 use std::ops::Add;
 
-// An upper bound on a difference: `< c`, `<= c`, which allows more, or none. It is a type of its own, since this library shares no representation
-// with the first one. Its order is written: the derived one of a number with an edge beside it was tried, but a matrix took half as much room again.
+// An upper bound on a difference, as a case each: none, `<= c`, `< c`, which allows less. It is a type of its own, since this library shares no
+// representation with the first one. Its order is written: the derived one of a number with an edge beside it was tried, but a matrix took half as
+// much room again. Each pair of cases has a line of its own, since a run of the program took a tenth longer where pairs were put together by `|`.
 #[derive(Clone, Copy, PartialEq, Eq, Debug)]
 pub enum Upper {
-    Below(i64),
-    AtMost(i64),
     Free,
+    AtMost(i64),
+    Below(i64),
 }
 
 impl Upper {
@@ -18,9 +19,11 @@ impl Upper {
     pub fn is_tighter(self, other: Upper) -> bool {
         match (self, other) {
             (Upper::Free, _) => false,
-            (_, Upper::Free) => true,
+            (Upper::AtMost(_) | Upper::Below(_), Upper::Free) => true,
+            (Upper::AtMost(x), Upper::AtMost(y)) => x < y,
+            (Upper::Below(x), Upper::Below(y)) => x < y,
+            (Upper::AtMost(x), Upper::Below(y)) => x < y,
             (Upper::Below(x), Upper::AtMost(y)) => x <= y,
-            (Upper::Below(x) | Upper::AtMost(x), Upper::Below(y) | Upper::AtMost(y)) => x < y,
         }
     }
 
@@ -54,9 +57,9 @@ impl Add for Upper {
     fn add(self, other: Upper) -> Upper {
         match (self, other) {
             (Upper::AtMost(x), Upper::AtMost(y)) => Upper::AtMost(x.saturating_add(y)),
-            (Upper::Below(x) | Upper::AtMost(x), Upper::Below(y) | Upper::AtMost(y)) => {
-                Upper::Below(x.saturating_add(y))
-            }
+            (Upper::AtMost(x), Upper::Below(y)) => Upper::Below(x.saturating_add(y)),
+            (Upper::Below(x), Upper::AtMost(y)) => Upper::Below(x.saturating_add(y)),
+            (Upper::Below(x), Upper::Below(y)) => Upper::Below(x.saturating_add(y)),
             _ => Upper::Free,
         }
     }
