@@ -4,7 +4,7 @@ use std::ops::Add;
 
 // An upper bound on a difference, as a case each: none, `<= c`, `< c`, which allows less. It is a type of its own, since this library shares no
 // representation with the first one. Its order is written: the derived one of a number with an edge beside it was tried, but a matrix took half as
-// much room again. Each pair of cases has a line of its own, since a run of the program took a tenth longer where pairs were put together by `|`.
+// much room again. Each pair of two numbers has a line of its own: put together by `|`, with the cases in another order, a run took a tenth longer.
 #[derive(Clone, Copy, PartialEq, Eq, Debug)]
 pub enum Upper {
     Free,
